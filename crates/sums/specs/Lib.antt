@@ -1,0 +1,4 @@
+pub mod Sums
+pub mod Rules
+pub mod Ids
+pub mod Cuts

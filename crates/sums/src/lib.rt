@@ -1,0 +1,1 @@
+// No code: counting, plain sets of ids, ranks and cuts.
