@@ -1,11 +1,10 @@
 -- Laws of `count`, each a law of `sumTo`. Assumes nothing.
-use mathlib.Core.Path.{_≡_, refl, sym, ap, _∙_}
-use mathlib.Core.Logic.{_⊎_, inl, inr, ⊎-elim, _≢_}
+use mathlib.Core.Path.{_≡_, sym, ap, _∙_}
+use mathlib.Core.Logic.{_⊎_, inl, inr, _≢_}
 use mathlib.Core.Bool.{Bool, true, false}
-use Prim.Native.Nat.{ℕ, zero, suc, _+_, _*_, _≤_, _<_}
+use Prim.Native.Nat.{ℕ, zero, suc, _+_, _≤_, _<_}
 use native.Mathlib.Omega.{arith}
 use mir.Val.{boolByte}
-use Rattle.sums.specs.Sums.{sumTo}
 use Rattle.sums.specs.Ids.{Ids, count}
 use Rattle.sums.proofs.Sums.{sum-zero, sum-suc, sum-next, sum-ext, sum-none, sum-bound, sum-split, sum-mono, sum-change, last-or}
 

@@ -1,3 +1,13 @@
 pub mod Sums
 pub mod Counts
 pub mod Rules
+pub mod Least
+pub mod Ranks
+pub mod Rounding
+pub mod Parts
+pub mod Boundaries
+pub mod Held
+pub mod Cuttings
+pub mod Theorems
+pub mod Listed
+pub mod Cases

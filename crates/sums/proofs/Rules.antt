@@ -78,6 +78,15 @@ if-of {a} {b} d e = record { sound = if-sound a b d e; whole = if-whole a b d e 
 pub same-of : {a : Bool} {P Q : Type 0} → Decides a P → (P → Q) → (Q → P) → Decides a Q
 same-of d f g = record { sound = λ h. f (d .sound h); whole = λ q. d .whole (g q) }
 
+-- two tests that decide one statement agree
+pub same-test : {a b : Bool} {A : Type 0} → Decides a A → Decides b A → a ≡ b
+same-test {a} {b} d e = go a refl b refl
+  where
+    go : (s : Bool) → a ≡ s → (t : Bool) → b ≡ t → a ≡ b
+    go true p t q = p ∙ sym (e .whole (d .sound p))
+    go false p true q = d .whole (e .sound q) ∙ sym q
+    go false p false q = p ∙ sym q
+
 pub leb-of : (m n : ℕ) → Decides (leb m n) (m ≤ n)
 leb-of m n = record { sound = leb-true m n; whole = le-leb m n }
 

@@ -1,6 +1,7 @@
 -- The plan: the least id with a given rank, the number of parts, each part's interval, and cuttings to compare with.
 use mathlib.Core.Path.{_≡_}
-use mathlib.Core.Bool.{Bool, true, false, cond, _&&_}
+use mathlib.Core.Bool.{Bool, true, cond, _&&_}
+use mathlib.Core.List.{List, [], _∷_, _++_}
 use Prim.Native.Nat.{ℕ, zero, suc, _+_, _-_, _*_, _/_, _^_, _≤_, _<_, max}
 use lib.Dec.{leb}
 use lib.IntN.{ℤ, pos, negsuc}
@@ -53,6 +54,14 @@ held P i = count (λ (n : ℕ). P n && inside (pos n) i) (2 ^ 63)
 -- boundary k, for k from 1
 abbrev pub boundary : Ids → ℕ → ℕ → ℕ
 boundary P S k = least P (k * size S)
+
+-- boundaries 1 to k, and all that a plan has: one fewer than the parts
+unfoldable pub boundariesTo : Ids → ℕ → ℕ → List ℕ
+boundariesTo P S zero = []
+boundariesTo P S (suc k) = boundariesTo P S k ++ (boundary P S (suc k) ∷ [])
+
+abbrev pub boundaries : Ids → ℕ → List ℕ
+boundaries P S = boundariesTo P S (parts (total P) S - 1)
 
 -- part k of the n that a set has: from boundary k, or the smallest i64, up to boundary k + 1, or without end
 unfoldable pub lowEnd : Ids → ℕ → ℕ → ℤ

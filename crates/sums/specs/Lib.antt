@@ -2,3 +2,5 @@ pub mod Sums
 pub mod Rules
 pub mod Ids
 pub mod Cuts
+pub mod Planned
+pub mod Cases
