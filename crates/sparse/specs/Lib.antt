@@ -1,0 +1,4 @@
+pub mod Row
+pub mod Search
+pub mod Edit
+pub mod Union
