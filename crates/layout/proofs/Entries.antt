@@ -1,0 +1,46 @@
+-- An entry's parts, below D and past it. Assumes nothing.
+use mathlib.Core.Path.{_≡_, sym, ap}
+use mathlib.Core.List.{List}
+use mathlib.Core.Bool.{Bool, cond}
+use Prim.Native.Nat.{ℕ, _+_, _-_, _≤_, _<_}
+use lib.ListN.{getD}
+use lib.Dec.{ltb}
+use borrow.Author.Tests.{lt-ltb, le-ltb}
+use Rattle.layout.specs.Sizes.{directAt, overAt}
+use Rattle.layout.specs.Entries.{chunkAt, wordAt, prefixAt}
+use Rattle.layout.specs.declared.head.Header.{Header}
+
+-- the choice between two numbers by e below d
+module _ (a b e d : ℕ) where
+  chosen-below : e < d → a ≡ cond (ltb e d) a b
+  chosen-below l = ap (λ (y : Bool). cond y a b) (sym (lt-ltb e d l))
+
+  chosen-past : d ≤ e → b ≡ cond (ltb e d) a b
+  chosen-past l = ap (λ (y : Bool). cond y a b) (sym (le-ltb e d l))
+
+module _ (h : Header) (t : List ℕ) (e : ℕ) where
+  module _ (l : e < h .d) where
+    pub chunk-below : e ≡ chunkAt h t e
+    unfolding chunkAt
+    chunk-below = chosen-below e (getD t (overAt h (e - h .d)) 0) e (h .d) l
+
+    pub word-below : getD t (directAt e) 0 ≡ wordAt h t e
+    unfolding wordAt
+    word-below = ap (λ (i : ℕ). getD t i 0) (chosen-below (directAt e) (overAt h (e - h .d) + 1) e (h .d) l)
+
+    pub prefix-below : getD t (directAt e + 1) 0 ≡ prefixAt h t e
+    unfolding prefixAt
+    prefix-below = ap (λ (i : ℕ). getD t i 0) (chosen-below (directAt e + 1) (overAt h (e - h .d) + 2) e (h .d) l)
+
+  module _ (l : h .d ≤ e) where
+    pub chunk-past : getD t (overAt h (e - h .d)) 0 ≡ chunkAt h t e
+    unfolding chunkAt
+    chunk-past = chosen-past e (getD t (overAt h (e - h .d)) 0) e (h .d) l
+
+    pub word-past : getD t (overAt h (e - h .d) + 1) 0 ≡ wordAt h t e
+    unfolding wordAt
+    word-past = ap (λ (i : ℕ). getD t i 0) (chosen-past (directAt e) (overAt h (e - h .d) + 1) e (h .d) l)
+
+    pub prefix-past : getD t (overAt h (e - h .d) + 2) 0 ≡ prefixAt h t e
+    unfolding prefixAt
+    prefix-past = ap (λ (i : ℕ). getD t i 0) (chosen-past (directAt e + 1) (overAt h (e - h .d) + 2) e (h .d) l)

@@ -1,0 +1,149 @@
+-- A chunk's word: a turn of the search among overflow ids, and each way to a word. Assumes nothing.
+use mathlib.Core.Path.{_≡_, refl, sym, _∙_, ap, ap₂}
+use mathlib.Core.List.{List}
+use mathlib.Core.Bool.{Bool, true, false, cond, _&&_}
+use Prim.Native.Nat.{ℕ, zero, suc, _+_, _-_, _*_, _/_, _≤_, _<_}
+use native.Mathlib.Omega.{arith}
+use lib.ListN.{length, getD}
+use lib.Dec.{leb, ltb, eqb}
+use borrow.Author.Tests.{lt-ltb, le-ltb, le-leb, lt-leb, eq-eqb, ne-eqb}
+use Rattle.layout.specs.Sizes.{directAt, overCount}
+use Rattle.layout.specs.Short.{lowerKey, keyAt, overPlace, overWord, directWord, overflowWord, wordIn}
+use Rattle.layout.specs.declared.find.Word.{Word}
+use Rattle.layout.specs.declared.find.Word.the-variants.{Is, Bad}
+
+-- ---- the search
+
+abbrev middle : ℕ → ℕ → ℕ
+middle lo hi = lo + (hi - lo) / 2
+
+module _ (key : ℕ → ℕ) (c : ℕ) where
+  -- one turn, where a says that lo is below hi and b that the middle key is below c
+  turned : ℕ → ℕ → ℕ → Bool → Bool → ℕ
+  turned turns lo hi a b = cond a (cond b (lowerKey turns key c (middle lo hi + 1) hi) (lowerKey turns key c lo (middle lo hi))) lo
+
+  pub lower-up : (turns lo hi : ℕ) → lo < hi → key (middle lo hi) < c → lowerKey (suc turns) key c lo hi ≡ lowerKey turns key c (middle lo hi + 1) hi
+  unfolding lowerKey turned
+  lower-up turns lo hi l g = ap₂ (turned turns lo hi) (lt-ltb lo hi l) (lt-ltb (key (middle lo hi)) c g)
+
+  pub lower-down : (turns lo hi : ℕ) → lo < hi → c ≤ key (middle lo hi) → lowerKey (suc turns) key c lo hi ≡ lowerKey turns key c lo (middle lo hi)
+  unfolding lowerKey turned
+  lower-down turns lo hi l g = ap₂ (turned turns lo hi) (lt-ltb lo hi l) (le-ltb (key (middle lo hi)) c g)
+
+  pub lower-end : (turns lo hi : ℕ) → hi ≤ lo → lowerKey turns key c lo hi ≡ lo
+  unfolding lowerKey turned
+  lower-end zero lo hi l = refl
+  lower-end (suc turns) lo hi l = ap (λ (a : Bool). turned turns lo hi a (ltb (key (middle lo hi)) c)) (le-ltb lo hi l)
+
+-- lo to hi is left, and turns enough
+pub record Halving (t : List ℕ) (a n c lo hi : ℕ) : Type 0 where
+  pub turns : ℕ
+  pub enough : hi - lo ≤ turns
+  pub order : lo ≤ hi
+  pub inside : hi ≤ n
+  pub same : lowerKey turns (keyAt t a) c lo hi ≡ overPlace t a n c
+
+module _ (t : List ℕ) (a n c : ℕ) where
+  pub halving-start : Halving t a n c 0 n
+  halving-start = record { turns = n; enough = omega arith; order = omega arith; inside = omega arith; same = refl }
+
+  module _ (lo hi v : ℕ) (h : Halving t a n c lo hi) (l : lo < hi) (e : v ≡ keyAt t a (middle lo hi)) where
+    pub halving-up : v < c → Halving t a n c (middle lo hi + 1) hi
+    halving-up g = go (h .turns) (h .enough) (h .same)
+      where
+        go : (turns : ℕ) → hi - lo ≤ turns → lowerKey turns (keyAt t a) c lo hi ≡ overPlace t a n c → Halving t a n c (middle lo hi + 1) hi
+        go zero p q = absurd (omega arith)
+        go (suc turns) p q = record {
+          turns = turns;
+          enough = omega arith;
+          order = omega arith;
+          inside = h .inside;
+          same = sym (lower-up (keyAt t a) c turns lo hi l (omega (arith, e))) ∙ q;
+        }
+
+    pub halving-down : c ≤ v → Halving t a n c lo (middle lo hi)
+    halving-down g = go (h .turns) (h .enough) (h .same)
+      where
+        go : (turns : ℕ) → hi - lo ≤ turns → lowerKey turns (keyAt t a) c lo hi ≡ overPlace t a n c → Halving t a n c lo (middle lo hi)
+        go zero p q = absurd (omega arith)
+        go (suc turns) p q = record {
+          turns = turns;
+          enough = omega arith;
+          order = omega arith;
+          inside = omega (arith, h .inside);
+          same = sym (lower-down (keyAt t a) c turns lo hi l (omega (arith, e))) ∙ q;
+        }
+
+  pub halving-end : (lo hi : ℕ) → Halving t a n c lo hi → hi ≤ lo → (lo ≡ overPlace t a n c) × (lo ≤ n)
+  halving-end lo hi h l = (sym (lower-end (keyAt t a) c (h .turns) lo hi l) ∙ h .same, omega (arith, h .order, h .inside))
+
+-- ---- the word of an overflow entry
+
+module _ (t : List ℕ) (a n c k : ℕ) where
+  by-key : Bool → Bool → ℕ
+  by-key b d = cond (b && d) (getD t (a + 3 * k + 1) 0) 0
+
+  pub word-out : n ≤ k → 0 ≡ overWord t a n c k
+  unfolding by-key
+  word-out l = ap (λ (b : Bool). by-key b (eqb (keyAt t a k) c)) (sym (le-ltb k n l))
+
+  module _ (l : k < n) (v : ℕ) (e : v ≡ keyAt t a k) where
+    pub word-other : (v ≡ c → ⊥) → 0 ≡ overWord t a n c k
+    unfolding by-key
+    word-other g = ap₂ by-key (sym (lt-ltb k n l)) (sym (ne-eqb v c g) ∙ ap (λ (i : ℕ). eqb i c) e)
+
+    pub word-own : (w : ℕ) → v ≡ c → w ≡ getD t (a + 3 * k + 1) 0 → w ≡ overWord t a n c k
+    unfolding by-key
+    word-own w g f = f ∙ ap₂ by-key (sym (lt-ltb k n l)) (sym (eq-eqb v c g) ∙ ap (λ (i : ℕ). eqb i c) e)
+
+module _ (t : List ℕ) (d c n : ℕ) (e : n ≡ overCount t) where
+  -- a word found by search, where the tests say so; n entries
+  by-tests : Bool → Bool → Bool → Word
+  by-tests f g h = cond (f && g && h) (Is (overWord t (16 + 2 * d) (overCount t) c (overPlace t (16 + 2 * d) (overCount t) c))) Bad
+
+  pub over-many-direct : 262144 < d → Bad ≡ overflowWord t d c
+  unfolding by-tests
+  over-many-direct l = ap (λ (f : Bool). by-tests f (leb (overCount t) 65536) (leb (16 + 2 * d + 3 * overCount t) (length t))) (sym (lt-leb d 262144 l))
+
+  module _ (l : d ≤ 262144) where
+    pub over-many : 65536 < n → Bad ≡ overflowWord t d c
+    unfolding by-tests
+    over-many g = ap₂ (λ (f b : Bool). by-tests f b (leb (16 + 2 * d + 3 * overCount t) (length t))) (sym (le-leb d 262144 l)) (sym (lt-leb (overCount t) 65536 (omega (arith, e))))
+
+    module _ (g : n ≤ 65536) where
+      most : (b : Bool) → leb (16 + 2 * d + 3 * overCount t) (length t) ≡ b → by-tests true true b ≡ overflowWord t d c
+      unfolding by-tests
+      most b q =
+          ap (by-tests true true) (sym q)
+          ∙ ap₂ (λ (f h : Bool). by-tests f h (leb (16 + 2 * d + 3 * overCount t) (length t))) (sym (le-leb d 262144 l)) (sym (le-leb (overCount t) 65536 (omega (arith, e))))
+
+      pub over-short : length t < 16 + 2 * d + 3 * n → Bad ≡ overflowWord t d c
+      unfolding by-tests
+      over-short i = most false (lt-leb (16 + 2 * d + 3 * overCount t) (length t) (omega (arith, e)))
+
+      pub over-found : 16 + 2 * d + 3 * n ≤ length t → (k w : ℕ) → k ≡ overPlace t (16 + 2 * d) n c → w ≡ overWord t (16 + 2 * d) n c k → Is w ≡ overflowWord t d c
+      unfolding by-tests
+      over-found i k w ek ew =
+          let p : w ≡ overWord t (16 + 2 * d) n c (overPlace t (16 + 2 * d) n c) = ew ∙ ap (overWord t (16 + 2 * d) n c) ek in
+          let q : overWord t (16 + 2 * d) n c (overPlace t (16 + 2 * d) n c) ≡ overWord t (16 + 2 * d) (overCount t) c (overPlace t (16 + 2 * d) (overCount t) c) = ap (λ (j : ℕ). overWord t (16 + 2 * d) j c (overPlace t (16 + 2 * d) j c)) e in
+          ap Is (p ∙ q) ∙ most true (le-leb (16 + 2 * d + 3 * overCount t) (length t) (omega (arith, e)))
+
+-- ---- any chunk's word
+
+module _ (t : List ℕ) (c d : ℕ) (e : d ≡ getD t 2 0) where
+  pub in-overflow : d ≤ c → (w : Word) → w ≡ overflowWord t d c → w ≡ wordIn t c
+  unfolding wordIn
+  in-overflow l w f =
+      f ∙ (ap (λ (i : ℕ). overflowWord t i c) e
+      ∙ ap (λ (b : Bool). cond b (directWord t c) (overflowWord t (getD t 2 0) c)) (sym (le-ltb c (getD t 2 0) (omega (arith, e)))))
+
+  module _ (l : c < d) where
+    direct : directWord t c ≡ wordIn t c
+    unfolding wordIn
+    direct = ap (λ (b : Bool). cond b (directWord t c) (overflowWord t (getD t 2 0) c)) (sym (lt-ltb c (getD t 2 0) (omega (arith, e))))
+
+    pub in-table : directAt c < length t → Is (getD t (directAt c) 0) ≡ wordIn t c
+    in-table g = ap (λ (b : Bool). cond b (Is (getD t (directAt c) 0)) Bad) (sym (lt-ltb (directAt c) (length t) g)) ∙ direct
+
+    pub past-table : length t ≤ directAt c → Bad ≡ wordIn t c
+    past-table g = ap (λ (b : Bool). cond b (Is (getD t (directAt c) 0)) Bad) (sym (le-ltb (directAt c) (length t) g)) ∙ direct

@@ -1,0 +1,108 @@
+-- Each test of the sizes, the lengths and the table decides its rule, and the walk all of them. Assumes nothing.
+use mathlib.Core.Path.{_≡_, refl, sym}
+use mathlib.Core.List.{List}
+use mathlib.Core.Bool.{Bool, true, false}
+use Prim.Native.Nat.{ℕ, _+_, _*_, _≤_, _<_}
+use native.Mathlib.Omega.{arith}
+use lib.ListN.{length, getD}
+use Rattle.sums.specs.Rules.{allTo, Decides}
+use Rattle.sums.proofs.Rules.{all-of, and-of, unless-of, same-of, leb-of, ltb-of, eqb-of}
+use Rattle.layout.specs.Mem.{Mem}
+use Rattle.layout.specs.Sizes.{InRange, Roomy, RoomIn, wide, blocksOf, lastChunk, overAt, tableSize, head, modeAt, overCount}
+use Rattle.layout.specs.Places.{rowOwner, pageOwner}
+use Rattle.layout.specs.Entries.{entries, chunkAt, placeAt}
+use Rattle.layout.specs.Follows.{Key, Owned}
+use Rattle.layout.specs.Tests.{inRange, roomy, roomIn, keyIs, ownedIs, placeIs, Walked, headIs, tableIs, walked}
+use Rattle.layout.specs.declared.head.Header.{Header}
+use Rattle.layout.specs.declared.place.Place.{Place}
+use Rattle.layout.specs.declared.place.Place.the-variants.{Absent, Sparse, Dense}
+
+pub always : Decides true Unit
+always = record { sound = λ h. tt; whole = λ u. refl }
+
+-- two tests of one statement agree
+pub same-answer : (a b : Bool) {P : Type 0} → Decides a P → Decides b P → a ≡ b
+same-answer true b d e = sym (e .whole (d .sound refl))
+same-answer false true d e = d .whole (e .sound refl)
+same-answer false false d e = refl
+
+-- ---- sizes and lengths
+
+pub range-of : (h : Header) → Decides (inRange h) (InRange h)
+unfolding inRange
+range-of h =
+    same-of
+    (and-of (and-of (and-of (and-of (and-of (and-of (and-of (leb-of 9 (h .s)) (leb-of (h .s) 25)) (leb-of 1 (h .m))) (leb-of (h .m) 1024)) (leb-of (h .d) 262144)) (leb-of (h .v) 65536)) (leb-of (h .r) 65536)) (leb-of (h .p) 65536))
+    (λ q. record { s-low = q .0 .0 .0 .0 .0 .0 .0; s-high = q .0 .0 .0 .0 .0 .0 .1; m-low = q .0 .0 .0 .0 .0 .1; m-high = q .0 .0 .0 .0 .1; d-high = q .0 .0 .0 .1; v-high = q .0 .0 .1; r-high = q .0 .1; p-high = q .1 })
+    (λ i. (((((((i .s-low, i .s-high), i .m-low), i .m-high), i .d-high), i .v-high), i .r-high), i .p-high))
+
+pub roomy-of : (h : Header) (pages rows blocks table : ℕ) → Decides (roomy h pages rows blocks table) (Roomy h pages rows blocks table)
+unfolding roomy
+roomy-of h pages rows blocks table =
+    same-of
+    (and-of (and-of (and-of (leb-of (h .p * wide h) pages) (leb-of (h .r * h .m) rows)) (leb-of (h .p * blocksOf h) blocks)) (leb-of (tableSize h) table))
+    (λ q. record { in-pages = q .0 .0 .0; in-rows = q .0 .0 .1; in-blocks = q .0 .1; in-table = q .1 })
+    (λ i. (((i .in-pages, i .in-rows), i .in-blocks), i .in-table))
+
+pub room-of : (h : Header) (x : Mem) → Decides (roomIn h x) (RoomIn h x)
+room-of h x = roomy-of h (length (x .pages)) (length (x .rows)) (length (x .blocks)) (length (x .table))
+
+-- ---- overflow ids, words and owners
+
+pub key-of : (h : Header) (t : List ℕ) (j : ℕ) → Decides (keyIs h t j) (Key h t j)
+unfolding keyIs
+key-of h t j =
+    let k = getD t (overAt h j) 0 in
+    same-of
+    (and-of (and-of (leb-of (h .d) k) (ltb-of k (lastChunk h))) (unless-of (leb-of (overCount t) (j + 1)) (ltb-of k (getD t (overAt h (j + 1)) 0))))
+    (λ q. record { low = q .0 .0; high = q .0 .1; rising = λ l. q .1 (λ g. omega arith) })
+    (λ g. ((g .low, g .high), λ n. g .rising (past n)))
+  where
+    past : {a b : ℕ} → (a ≤ b → ⊥) → b < a
+    past n = omega arith
+
+pub owned-of : (h : Header) (t : List ℕ) (c : ℕ) (q : Place) → Decides (ownedIs h t c q) (Owned h t c q)
+owned-of h t c Absent = always
+owned-of h t c (Sparse r l) =
+    same-of
+    (and-of (and-of (and-of (ltb-of r (h .r)) (leb-of 1 l)) (leb-of l (h .m))) (eqb-of (rowOwner h t r) (c + 1)))
+    (λ q. record { there = q .0 .0 .0; some = q .0 .0 .1; short = q .0 .1; owner = q .1 })
+    (λ g. (((g .there, g .some), g .short), g .owner))
+owned-of h t c (Dense p) =
+    same-of
+    (and-of (ltb-of p (h .p)) (eqb-of (pageOwner h t p) (c + 1)))
+    (λ q. record { there = q .0; owner = q .1 })
+    (λ g. (g .there, g .owner))
+
+-- ---- the walk
+
+pub record HeadIs (h : Header) (x : Mem) : Type 0 where
+  pub sizes : InRange h
+  pub room : RoomIn h x
+  pub mode : modeAt (x .table) ≤ 1
+  pub over-fits : overCount (x .table) ≤ h .v
+
+pub head-of : (h : Header) (x : Mem) → Decides (headIs h x) (HeadIs h x)
+unfolding headIs
+head-of h x =
+    same-of
+    (and-of (and-of (and-of (range-of h) (room-of h x)) (leb-of (modeAt (x .table)) 1)) (leb-of (overCount (x .table)) (h .v)))
+    (λ q. record { sizes = q .0 .0 .0; room = q .0 .0 .1; mode = q .0 .1; over-fits = q .1 })
+    (λ g. (((g .sizes, g .room), g .mode), g .over-fits))
+
+module _ (h : Header) (t : List ℕ) where
+  pub keys-of : Decides (allTo (keyIs h t) (overCount t)) ((j : ℕ) → j < overCount t → Key h t j)
+  keys-of = all-of (keyIs h t) (overCount t) (λ j l. key-of h t j)
+
+  pub places-of : Decides (allTo (placeIs h t) (entries h t)) ((e : ℕ) → e < entries h t → Owned h t (chunkAt h t e) (placeAt h t e))
+  unfolding placeIs
+  places-of = all-of (placeIs h t) (entries h t) (λ e l. owned-of h t (chunkAt h t e) (placeAt h t e))
+
+pub walked-of : (x : Mem) → Decides (walked x) (Walked x (head x))
+unfolding walked tableIs
+walked-of x =
+    let h = head x in
+    same-of
+    (and-of (head-of h x) (and-of (keys-of h (x .table)) (places-of h (x .table))))
+    (λ q. record { sizes = q .0 .sizes; room = q .0 .room; mode = q .0 .mode; over-fits = q .0 .over-fits; keys = q .1 .0; places = q .1 .1 })
+    (λ w. (record { sizes = w .sizes; room = w .room; mode = w .mode; over-fits = w .over-fits }, (w .keys, w .places)))

@@ -1,0 +1,95 @@
+-- The walk, way by way: what each answer of the code is of the tests. Assumes nothing.
+use mathlib.Core.Path.{_≡_, sym, _∙_, ap, ap₂}
+use mathlib.Core.List.{List}
+use mathlib.Core.Bool.{Bool, true, false, _&&_}
+use Prim.Native.Nat.{ℕ, _+_, _-_, _≤_, _<_}
+use native.Mathlib.Omega.{arith}
+use lib.Dec.{leb, eqb}
+use borrow.Author.Tests.{lt-ltb, le-ltb}
+use Rattle.sums.specs.Rules.{allTo}
+use Rattle.sums.proofs.Rules.{and-of, same-of, leb-of, eqb-of}
+use Rattle.layout.specs.Mem.{Mem}
+use Rattle.layout.specs.Sizes.{InRange, head, modeAt, overCount}
+use Rattle.layout.specs.Places.{rowOwner, pageOwner}
+use Rattle.layout.specs.Entries.{entries, chunkAt, placeAt}
+use Rattle.layout.specs.Tests.{inRange, roomIn, keyIs, ownedIs, placeIs, headIs, tableIs, walked}
+use Rattle.layout.specs.declared.head.Header.{Header}
+use Rattle.layout.specs.declared.place.Place.{Place}
+use Rattle.layout.specs.declared.place.Place.the-variants.{Sparse, Dense}
+use Rattle.layout.proofs.Tests.{HeadIs, range-of, head-of, same-answer}
+
+-- ---- one entry
+
+-- an owner, less 1, is its chunk
+pub owner-less : (o c m : ℕ) → m ≡ o - 1 → (leb 1 o && eqb m c) ≡ eqb o (c + 1)
+owner-less o c m e =
+    same-answer (leb 1 o && eqb m c) (eqb o (c + 1))
+    (same-of (and-of (leb-of 1 o) (eqb-of m c)) (λ (q : (1 ≤ o) × (m ≡ c)). up (q .0) (q .1)) (λ (q : o ≡ c + 1). (omega arith, omega arith)))
+    (eqb-of o (c + 1))
+  where
+    up : 1 ≤ o → m ≡ c → o ≡ c + 1
+    up l f = omega (arith, e)
+
+module _ (h : Header) (t : List ℕ) (e c : ℕ) (q : Place) (ec : c ≡ chunkAt h t e) (eq : q ≡ placeAt h t e) where
+  pub place-way : (p : Place) → q ≡ p → ownedIs h t c p ≡ placeIs h t e
+  unfolding placeIs
+  place-way p f = ap₂ (ownedIs h t) ec (sym f ∙ eq)
+
+  module _ (r l : ℕ) (f : q ≡ Sparse r l) where
+    -- the test of row r, where b says that it is there and a that c owns it
+    in-row : Bool → Bool → Bool
+    in-row b a = b && leb 1 l && leb l (h .m) && a
+
+    pub place-no-row : h .r ≤ r → false ≡ placeIs h t e
+    unfolding in-row
+    place-no-row g = ap (λ (b : Bool). in-row b (eqb (rowOwner h t r) (c + 1))) (sym (le-ltb r (h .r) g)) ∙ place-way (Sparse r l) f
+
+    pub place-row : (o : ℕ) (a : Bool) → r < h .r → o ≡ rowOwner h t r → a ≡ eqb o (c + 1) → (leb 1 l && leb l (h .m) && a) ≡ placeIs h t e
+    unfolding in-row
+    place-row o a g eo ea = ap₂ in-row (sym (lt-ltb r (h .r) g)) (ea ∙ ap (λ (n : ℕ). eqb n (c + 1)) eo) ∙ place-way (Sparse r l) f
+
+  module _ (p : ℕ) (f : q ≡ Dense p) where
+    pub place-no-page : h .p ≤ p → false ≡ placeIs h t e
+    place-no-page g = ap (λ (b : Bool). b && eqb (pageOwner h t p) (c + 1)) (sym (le-ltb p (h .p) g)) ∙ place-way (Dense p) f
+
+    pub place-page : (o : ℕ) (a : Bool) → p < h .p → o ≡ pageOwner h t p → a ≡ eqb o (c + 1) → a ≡ placeIs h t e
+    place-page o a g eo ea = ap₂ _&&_ (sym (lt-ltb p (h .p) g)) (ea ∙ ap (λ (n : ℕ). eqb n (c + 1)) eo) ∙ place-way (Dense p) f
+
+-- ---- sizes and lengths
+
+module _ (h : Header) (x : Mem) (a : Bool) (e : a ≡ inRange h) where
+  -- the test, where a says that the sizes are allowed
+  head-by : Bool → Bool
+  head-by b = b && roomIn h x && leb (modeAt (x .table)) 1 && leb (overCount (x .table)) (h .v)
+
+  pub no-range : a ≡ false → false ≡ headIs h x
+  unfolding headIs head-by
+  no-range n = ap head-by (sym n ∙ e)
+
+  pub is-range : a ≡ true → InRange h
+  is-range y = range-of h .sound (sym e ∙ y)
+
+  pub head-rest : a ≡ true → (b : Bool) (m n : ℕ) → b ≡ roomIn h x → m ≡ modeAt (x .table) → n ≡ overCount (x .table) → (b && leb m 1 && leb n (h .v)) ≡ headIs h x
+  unfolding headIs head-by
+  head-rest y b m n eb em en = let z : (b && leb m 1 && leb n (h .v)) ≡ head-by true = cc in z ∙ ap head-by (sym y ∙ e)
+
+-- ---- the whole walk
+
+module _ (x : Mem) (h : Header) (eh : h ≡ head x) (a : Bool) (e : a ≡ headIs h x) where
+  walk-by : Bool → Bool
+  walk-by b = b && tableIs (head x) (x .table)
+
+  headed : headIs (head x) x ≡ a
+  headed = ap (λ (g : Header). headIs g x) (sym eh) ∙ sym e
+
+  pub walk-none : a ≡ false → false ≡ walked x
+  unfolding walked walk-by
+  walk-none n = ap walk-by (sym (headed ∙ n))
+
+  pub walk-small : a ≡ true → InRange h × (overCount (x .table) ≤ 65536)
+  walk-small y = let g : HeadIs h x = head-of h x .sound (sym e ∙ y) in (g .sizes, omega (arith, g .sizes .v-high, g .over-fits))
+
+  pub walk-rest : a ≡ true → (k p : Bool) → k ≡ allTo (keyIs h (x .table)) (overCount (x .table)) → p ≡ allTo (placeIs h (x .table)) (entries h (x .table)) → (k && p) ≡ walked x
+  unfolding walked tableIs walk-by
+  walk-rest y k p ek ep =
+      ap₂ _&&_ ek ep ∙ (ap (λ (g : Header). tableIs g (x .table)) eh ∙ ap walk-by (sym (headed ∙ y)))

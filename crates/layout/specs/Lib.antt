@@ -1,0 +1,9 @@
+pub mod Mem
+pub mod Sizes
+pub mod Places
+pub mod Entries
+pub mod Meaning
+pub mod Follows
+pub mod Tests
+pub mod SetUp
+pub mod Short

@@ -1,0 +1,53 @@
+-- The short test: what a call on one chunk looks at, defined on any memory.
+use Prim.Native.Nat.{ℕ, zero, suc, _+_, _*_, _-_, _/_, _^_}
+use mathlib.Core.List.{List}
+use mathlib.Core.Bool.{Bool, cond, _&&_}
+use lib.ListN.{length, getD}
+use lib.Dec.{leb, ltb, eqb}
+use Rattle.layout.specs.Sizes.{directAt, overCount}
+use Rattle.layout.specs.Places.{decoded}
+use Rattle.layout.specs.declared.find.Word.{Word}
+use Rattle.layout.specs.declared.find.Word.the-variants as word
+use Rattle.layout.specs.declared.find.Spot.{Spot}
+use Rattle.layout.specs.declared.find.Spot.the-variants.{Nowhere, Row, Page, Bad}
+use Rattle.layout.specs.declared.place.Place.{Place}
+use Rattle.layout.specs.declared.place.Place.the-variants.{Absent, Sparse, Dense}
+
+-- the first of n rising keys that is not below c, by halving lo to hi, turns times at most
+unfoldable pub lowerKey : ℕ → (ℕ → ℕ) → ℕ → ℕ → ℕ → ℕ
+lowerKey zero key c lo hi = lo
+lowerKey (suc turns) key c lo hi =
+    cond (ltb lo hi)
+    (cond (ltb (key (lo + (hi - lo) / 2)) c) (lowerKey turns key c (lo + (hi - lo) / 2 + 1) hi) (lowerKey turns key c lo (lo + (hi - lo) / 2)))
+    lo
+
+-- the overflow entries begin at a, and there are n of them
+abbrev pub keyAt : List ℕ → ℕ → ℕ → ℕ
+keyAt t a j = getD t (a + 3 * j) 0
+
+abbrev pub overPlace : List ℕ → ℕ → ℕ → ℕ → ℕ
+overPlace t a n c = lowerKey n (keyAt t a) c 0 n
+
+abbrev pub overWord : List ℕ → ℕ → ℕ → ℕ → ℕ → ℕ
+overWord t a n c k = cond (ltb k n && eqb (keyAt t a k) c) (getD t (a + 3 * k + 1) 0) 0
+
+-- chunk c's word in a table with d direct entries
+abbrev pub directWord : List ℕ → ℕ → Word
+directWord t c = cond (ltb (directAt c) (length t)) (word.Is (getD t (directAt c) 0)) word.Bad
+
+abbrev pub overflowWord : List ℕ → ℕ → ℕ → Word
+overflowWord t d c =
+    cond (leb d 262144 && leb (overCount t) 65536 && leb (16 + 2 * d + 3 * overCount t) (length t))
+    (word.Is (overWord t (16 + 2 * d) (overCount t) c (overPlace t (16 + 2 * d) (overCount t) c))) word.Bad
+
+unfoldable pub wordIn : List ℕ → ℕ → Word
+wordIn t c = cond (ltb c (getD t 2 0)) (directWord t c) (overflowWord t (getD t 2 0) c)
+
+-- a place's part of its pool, where chunks have 2^s ids and rows m offsets, rows and pages being so long
+abbrev pub spotAt : ℕ → ℕ → ℕ → ℕ → Place → Spot
+spotAt s m pages rows Absent = Nowhere
+spotAt s m pages rows (Sparse r l) = cond (leb m 1024 && leb l m && leb (r * m + m) rows) (Row (r * m) m l) Bad
+spotAt s m pages rows (Dense p) = cond (ltb p 65536 && leb (p * 2 ^ (s - 6) + 2 ^ (s - 6)) pages) (Page (p * 2 ^ (s - 6)) (2 ^ (s - 6))) Bad
+
+unfoldable pub spotOf : ℕ → ℕ → ℕ → ℕ → ℕ → Spot
+spotOf s m pages rows w = spotAt s m pages rows (decoded w)

@@ -1,0 +1,67 @@
+// The directory as one run of entries, and the owners of rows and pages.
+ghost use mathlib.Core.Path.{_≡_};
+ghost use Prim.Native.Nat.{_≤_};
+ghost use Rattle.layout.specs.Sizes.{InRange};
+ghost use Rattle.layout.specs.Places.{rowOwner, pageOwner};
+ghost use Rattle.layout.specs.Entries.{chunkAt, wordAt, prefixAt, placeAt};
+use crate::head::Header;
+use crate::place;
+use crate::place::Place;
+use numbers::place as element;
+
+// The chunk id of entry e: e itself for a direct one.
+pub fn chunk_at(table: &[u64], h: Header, e: u64) -> u64
+    requires { ⌜ InRange h × (e ≤ 327680) ⌝ }
+    ensures { λ c. ⌜ c ≡ chunkAt h (now (table .entry)) e ⌝ }
+{
+    if e < h.d {
+        return e;
+    }
+    element::at(table, 16 + 2 * h.d + 3 * (e - h.d))
+}
+
+// The word of entry e.
+pub fn word_at(table: &[u64], h: Header, e: u64) -> u64
+    requires { ⌜ InRange h × (e ≤ 327680) ⌝ }
+    ensures { λ w. ⌜ w ≡ wordAt h (now (table .entry)) e ⌝ }
+{
+    if e < h.d {
+        return element::at(table, 16 + 2 * e);
+    }
+    element::at(table, 16 + 2 * h.d + 3 * (e - h.d) + 1)
+}
+
+// The prefix of entry e.
+pub fn prefix_at(table: &[u64], h: Header, e: u64) -> u64
+    requires { ⌜ InRange h × (e ≤ 327680) ⌝ }
+    ensures { λ n. ⌜ n ≡ prefixAt h (now (table .entry)) e ⌝ }
+{
+    if e < h.d {
+        return element::at(table, 16 + 2 * e + 1);
+    }
+    element::at(table, 16 + 2 * h.d + 3 * (e - h.d) + 2)
+}
+
+// What the word of entry e says.
+pub fn place_at(table: &[u64], h: Header, e: u64) -> Place
+    requires { ⌜ InRange h × (e ≤ 327680) ⌝ }
+    ensures { λ q. ⌜ q ≡ placeAt h (now (table .entry)) e ⌝ }
+{
+    place::decode(word_at(table, h, e))
+}
+
+// The chunk that has row r, plus 1; 0 where it is free.
+pub fn row_owner(table: &[u64], h: Header, r: u64) -> u64
+    requires { ⌜ InRange h × (r ≤ 65536) ⌝ }
+    ensures { λ o. ⌜ o ≡ rowOwner h (now (table .entry)) r ⌝ }
+{
+    element::at(table, 16 + 2 * h.d + 3 * h.v + r)
+}
+
+// The chunk that has page p, plus 1; 0 where it is free.
+pub fn page_owner(table: &[u64], h: Header, p: u64) -> u64
+    requires { ⌜ InRange h × (p ≤ 65536) ⌝ }
+    ensures { λ o. ⌜ o ≡ pageOwner h (now (table .entry)) p ⌝ }
+{
+    element::at(table, 16 + 2 * h.d + 3 * h.v + h.r + p)
+}

@@ -1,0 +1,122 @@
+// The short test: what a call on one chunk looks at, on any memory.
+ghost use mathlib.Core.Path.{_≡_};
+ghost use Prim.Native.Nat.{_^_, _≤_, _<_};
+ghost use Rattle.layout.specs.Short.{overPlace, overWord, overflowWord, wordIn, spotOf};
+use crate::place;
+use crate::place::Place;
+use numbers::place as element;
+use numbers::power;
+
+// A chunk's word, 0 where it is absent, or a table that is too short to say.
+pub enum Word {
+    Is(u64),
+    Bad,
+}
+
+// A place's part of its pool: where it starts, how long it is, a row's members; or a part that is not inside the pool.
+pub enum Spot {
+    Nowhere,
+    Row(usize, usize, usize),
+    Page(usize, usize),
+    Bad,
+}
+
+// The first of n overflow ids from a on that is not below c, by halving.
+pub fn over_place(table: &[u64], a: u64, n: u64, c: u64) -> u64
+    requires { ⌜ (a ≤ 1048576) × (n ≤ 65536) ⌝ }
+    ensures { λ k. ⌜ (k ≡ overPlace (now (table .entry)) a n c) × (k ≤ n) ⌝ }
+{
+    let mut lo: u64 = 0;
+    let mut hi = n;
+    while lo < hi {
+        let mid = lo + (hi - lo) / 2;
+        if element::at(table, a + 3 * mid) < c {
+            lo = mid + 1;
+        } else {
+            hi = mid;
+        }
+    }
+    lo
+}
+
+// The word of overflow entry k where its id is c, else 0.
+pub fn over_word(table: &[u64], a: u64, n: u64, c: u64, k: u64) -> u64
+    requires { ⌜ (a ≤ 1048576) × (k ≤ 65536) ⌝ }
+    ensures { λ w. ⌜ w ≡ overWord (now (table .entry)) a n c k ⌝ }
+{
+    if n <= k {
+        return 0;
+    }
+    if element::at(table, a + 3 * k) != c {
+        return 0;
+    }
+    element::at(table, a + 3 * k + 1)
+}
+
+// The word of a chunk past the d direct entries.
+pub fn overflow_word(table: &[u64], d: u64, c: u64) -> Word
+    ensures { λ w. ⌜ w ≡ overflowWord (now (table .entry)) d c ⌝ }
+{
+    let n = element::at(table, 7);
+    if 262144 < d {
+        return Word::Bad;
+    }
+    if 65536 < n {
+        return Word::Bad;
+    }
+    let a = 16 + 2 * d;
+    if (table.len() as u64) < a + 3 * n {
+        return Word::Bad;
+    }
+    Word::Is(over_word(table, a, n, c, over_place(table, a, n, c)))
+}
+
+// Chunk c's word: one look at a direct entry, a search past them.
+pub fn word_of(table: &[u64], c: u64) -> Word
+    requires { ⌜ c < 2 ^ 62 ⌝ }
+    ensures { λ w. ⌜ w ≡ wordIn (now (table .entry)) c ⌝ }
+{
+    let d = element::at(table, 2);
+    if d <= c {
+        return overflow_word(table, d, c);
+    }
+    let i = (16 + 2 * c) as usize;
+    if i < table.len() {
+        return Word::Is(table[i]);
+    }
+    Word::Bad
+}
+
+// The part of a pool that word w names, where chunks have 2^s ids, rows m offsets, and the pools are so long.
+pub fn spot_of(s: u64, m: u64, pages: u64, rows: u64, w: u64) -> Spot
+    requires { ⌜ (9 ≤ s) × (s ≤ 25) ⌝ }
+    ensures { λ q. ⌜ q ≡ spotOf s m pages rows w ⌝ }
+{
+    match place::decode(w) {
+        Place::Absent => Spot::Nowhere,
+        Place::Sparse(r, l) => {
+            if 1024 < m {
+                return Spot::Bad;
+            }
+            if m < l {
+                return Spot::Bad;
+            }
+            let a = power::times(r, m);
+            if rows < a + m {
+                return Spot::Bad;
+            }
+            Spot::Row(a as usize, m as usize, l as usize)
+        }
+        Place::Dense(p) => {
+            if 65536 <= p {
+                return Spot::Bad;
+            }
+            let a = power::scaled(p, s - 6);
+            let n = power::pow2(s - 6);
+            if pages < a + n {
+                return Spot::Bad;
+            }
+            Spot::Page(a as usize, n as usize)
+        }
+    }
+}

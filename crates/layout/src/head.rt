@@ -1,0 +1,79 @@
+// The header's six sizes, the test of them, and where the parts of the pools start.
+ghost use mathlib.Core.Path.{_≡_};
+ghost use Prim.Native.Nat.{_*_, _≤_};
+ghost use Rattle.layout.specs.Sizes.{InRange, headerAt, wide, blocksOf};
+ghost use Rattle.layout.specs.Tests.{inRange, roomy};
+use numbers::place;
+use numbers::power;
+
+pub struct Header {
+    pub s: u64,
+    pub m: u64,
+    pub d: u64,
+    pub v: u64,
+    pub r: u64,
+    pub p: u64,
+}
+
+// The sizes that a table's header says.
+pub fn read(table: &[u64]) -> Header
+    ensures { λ h. ⌜ h ≡ headerAt (now (table .entry)) ⌝ }
+{
+    Header {
+        s: place::at(table, 0),
+        m: place::at(table, 1),
+        d: place::at(table, 2),
+        v: place::at(table, 3),
+        r: place::at(table, 4),
+        p: place::at(table, 5),
+    }
+}
+
+// Document 01's table of sizes.
+pub fn in_range(h: Header) -> bool
+    ensures { λ b. ⌜ b ≡ inRange h ⌝ }
+{
+    (9 <= h.s)
+        & (h.s <= 25)
+        & (1 <= h.m)
+        & (h.m <= 1024)
+        & (h.d <= 262144)
+        & (h.v <= 65536)
+        & (h.r <= 65536)
+        & (h.p <= 65536)
+}
+
+// Where row r starts.
+pub fn row_at(h: Header, r: u64) -> u64
+    requires { ⌜ InRange h × (r ≤ 65536) ⌝ }
+    ensures { λ a. ⌜ a ≡ r * h .m ⌝ }
+{
+    power::times(r, h.m)
+}
+
+// Where page p starts.
+pub fn page_at(h: Header, p: u64) -> u64
+    requires { ⌜ InRange h × (p ≤ 65536) ⌝ }
+    ensures { λ a. ⌜ a ≡ p * wide h ⌝ }
+{
+    power::scaled(p, h.s - 6)
+}
+
+// Where the block counts of page p start.
+pub fn block_at(h: Header, p: u64) -> u64
+    requires { ⌜ InRange h × (p ≤ 65536) ⌝ }
+    ensures { λ a. ⌜ a ≡ p * blocksOf h ⌝ }
+{
+    power::scaled(p, h.s - 9)
+}
+
+// Slices of these lengths are as long as the sizes ask.
+pub fn has_room(h: Header, pages: u64, rows: u64, blocks: u64, table: u64) -> bool
+    requires { ⌜ InRange h ⌝ }
+    ensures { λ b. ⌜ b ≡ roomy h pages rows blocks table ⌝ }
+{
+    (page_at(h, h.p) <= pages)
+        & (row_at(h, h.r) <= rows)
+        & (block_at(h, h.p) <= blocks)
+        & (16 + 2 * h.d + 3 * h.v + h.r + h.p <= table)
+}

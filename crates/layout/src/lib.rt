@@ -1,0 +1,8 @@
+// What the four lent slices mean: header, directory, slots, set-up.
+pub mod answer;
+pub mod entry;
+pub mod find;
+pub mod head;
+pub mod place;
+pub mod setup;
+pub mod walk;

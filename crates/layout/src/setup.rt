@@ -1,0 +1,119 @@
+// Set-up: lent slices become an empty open set; elements past the sizes stay.
+ghost use mathlib.Core.Path.{_≡_};
+ghost use mathlib.Core.List.{_∷_};
+ghost use mathlib.Core.Bool.{cond};
+ghost use Prim.Native.Nat.{_≤_};
+ghost use lib.ListN.{length, drop};
+ghost use Rattle.layout.specs.Mem.{memOf};
+ghost use Rattle.layout.specs.Sizes.{InRange, Roomy, tableSize};
+ghost use Rattle.layout.specs.Tests.{inRange, roomy};
+ghost use Rattle.layout.specs.SetUp.{did, sizesOf, zeroed, freshTable, fresh, setUpBy};
+use crate::answer::Outcome;
+use crate::head;
+use crate::head::Header;
+
+// The first n words become 0.
+pub fn zero64(t: &mut [u64], n: usize)
+    requires { ⌜ n ≤ length (now t) ⌝ }
+    ensures { λ _. ⌜ now (t .exit) ≡ zeroed n (now (t .entry)) ⌝ }
+{
+    let mut i: usize = 0;
+    while i < n {
+        t[i] = 0;
+        i += 1;
+    }
+}
+
+// The first n numbers of 32 bits become 0.
+pub fn zero32(t: &mut [u32], n: usize)
+    requires { ⌜ n ≤ length (now t) ⌝ }
+    ensures { λ _. ⌜ now (t .exit) ≡ zeroed n (now (t .entry)) ⌝ }
+{
+    let mut i: usize = 0;
+    while i < n {
+        t[i] = 0;
+        i += 1;
+    }
+}
+
+// The sizes stand at the head of the table.
+pub fn put_sizes(table: &mut [u64], h: Header)
+    requires { ⌜ 6 ≤ length (now table) ⌝ }
+    ensures { λ _. ⌜ now (table .exit) ≡ h .s ∷ h .m ∷ h .d ∷ h .v ∷ h .r ∷ h .p ∷ drop 6 (now (table .entry)) ⌝ }
+{
+    table[0] = h.s;
+    table[1] = h.m;
+    table[2] = h.d;
+    table[3] = h.v;
+    table[4] = h.r;
+    table[5] = h.p;
+}
+
+// The table of an empty open set.
+pub fn fresh_table(table: &mut [u64], h: Header)
+    requires { ⌜ InRange h × (tableSize h ≤ length (now table)) ⌝ }
+    ensures { λ _. ⌜ now (table .exit) ≡ freshTable h (now (table .entry)) ⌝ }
+{
+    zero64(table, (16 + 2 * h.d + 3 * h.v + h.r + h.p) as usize);
+    put_sizes(table, h);
+}
+
+// All four slices of an empty open set.
+pub fn make_fresh(
+    h: Header,
+    pages: &mut [u64],
+    rows: &mut [u32],
+    blocks: &mut [u32],
+    table: &mut [u64],
+)
+    requires { ⌜ InRange h × Roomy h (length (now pages)) (length (now rows)) (length (now blocks)) (length (now table)) ⌝ }
+    ensures { λ _. ⌜ memOf (pages .exit) (rows .exit) (blocks .exit) (table .exit) ≡ fresh h (memOf (pages .entry) (rows .entry) (blocks .entry) (table .entry)) ⌝ }
+{
+    zero64(pages, head::page_at(h, h.p) as usize);
+    zero32(rows, head::row_at(h, h.r) as usize);
+    zero32(blocks, head::block_at(h, h.p) as usize);
+    fresh_table(table, h);
+}
+
+// The refusal that these sizes and lengths earn, 0 for none.
+pub fn refusal(h: Header, pages: u64, rows: u64, blocks: u64, table: u64) -> u64
+    ensures { λ k. ⌜ k ≡ cond (inRange h) (cond (roomy h pages rows blocks table) 0 2) 1 ⌝ }
+{
+    if !head::in_range(h) {
+        return 1;
+    }
+    if !head::has_room(h, pages, rows, blocks, table) {
+        return 2;
+    }
+    0
+}
+
+// Makes an empty open set of these sizes in lent memory, whatever it held, or refuses and changes nothing.
+pub fn set_up(
+    s: u64,
+    m: u64,
+    d: u64,
+    v: u64,
+    r: u64,
+    p: u64,
+    pages: &mut [u64],
+    rows: &mut [u32],
+    blocks: &mut [u32],
+    table: &mut [u64],
+) -> Outcome
+    ensures { λ o. ⌜ did o (memOf (pages .exit) (rows .exit) (blocks .exit) (table .exit)) ≡ setUpBy (sizesOf s m d v r p) (memOf (pages .entry) (rows .entry) (blocks .entry) (table .entry)) ⌝ }
+{
+    let h = Header { s, m, d, v, r, p };
+    let k = refusal(
+        h,
+        pages.len() as u64,
+        rows.len() as u64,
+        blocks.len() as u64,
+        table.len() as u64,
+    );
+    if k != 0 {
+        return Outcome::Refused(k);
+    }
+    make_fresh(h, pages, rows, blocks, table);
+    Outcome::Done
+}

@@ -1,0 +1,13 @@
+pub mod Sizes
+pub mod Keys
+pub mod Entries
+pub mod Halving
+pub mod Short
+pub mod Walked
+pub mod Owners
+pub mod Places
+pub mod Members
+pub mod Ranks
+pub mod ChunkCounts
+pub mod Fresh
+pub mod SetUp
