@@ -1,15 +1,14 @@
 -- Bits of a bit map: where each stands, and which are set after each change. Assumes nothing.
 use mathlib.Core.Path.{_≡_, refl, sym, ap, ap₂, _∙_}
 use mathlib.Core.Logic.{_⊎_, inl, inr, _≢_}
-use mathlib.Core.Bool.{Bool, true, false, not}
+use mathlib.Core.Bool.{Bool, true, false}
 use mathlib.Core.List.{List, [], _∷_}
 use Prim.Native.Nat.{ℕ, zero, suc, _+_, _-_, _*_, _/_, _%_, _^_, _≤_, _<_, max}
 use native.Mathlib.Nat.{mod-lt, zero-div}
 use native.Mathlib.Omega.{arith}
 use lib.Bits.{bitOr, or-zero-r}
-use lib.Dec.{lit<, eqb, ltb}
-use lib.ListN.{length, getD, set, take, replicate, length-set, length-replicate, getD-replicate, List·getD-eq-default}
-use lib.Pow.{pow-pos}
+use lib.Dec.{eqb, ltb}
+use lib.ListN.{length, getD, set, replicate, length-set, List·getD-eq-default}
 use lib.Seq.{set-out, getD-set-same, getD-set-other}
 use borrow.Author.Tests.{ltb-true, ltb-false, eqb-true, eqb-false, eq-eqb, ne-eqb}
 use Rattle.sums.specs.Rules.{Decides}
@@ -45,13 +44,13 @@ bit-inside ws o e = go (ltb o (64 * length ws)) refl
 
 -- ---- yes or no
 
-pub set-one : (ws : List ℕ) (o : ℕ) → isSet ws o ≡ true → bit ws o ≡ 1
+pub isSet-one : (ws : List ℕ) (o : ℕ) → isSet ws o ≡ true → bit ws o ≡ 1
 unfolding isSet
-set-one ws o e = eqb-true (bit ws o) 1 e
+isSet-one ws o e = eqb-true (bit ws o) 1 e
 
-pub one-set : (ws : List ℕ) (o : ℕ) → bit ws o ≡ 1 → isSet ws o ≡ true
+pub one-isSet : (ws : List ℕ) (o : ℕ) → bit ws o ≡ 1 → isSet ws o ≡ true
 unfolding isSet
-one-set ws o e = eq-eqb (bit ws o) 1 e
+one-isSet ws o e = eq-eqb (bit ws o) 1 e
 
 pub clear-zero : (ws : List ℕ) (o : ℕ) → isSet ws o ≡ false → bit ws o ≡ 0
 unfolding isSet
@@ -210,6 +209,6 @@ module _ (ws : List ℕ) (base : ℕ) (row : List ℕ) (u : ℕ) where
     -- set after exactly if it was set, or is one of the offsets
     pub row-decides : (n o : ℕ) → Decides (isSet (withRow ws base row u n) o) ((bit ws o ≡ 1) ⊎ ((i : ℕ) × (i < n) × (base + getD row i 0 % u ≡ o)))
     row-decides n o = record {
-      sound = λ h. bit-row-only n o (set-one (withRow ws base row u n) o h);
-      whole = λ e. one-set (withRow ws base row u n) o (back n o e);
+      sound = λ h. bit-row-only n o (isSet-one (withRow ws base row u n) o h);
+      whole = λ e. one-isSet (withRow ws base row u n) o (back n o e);
     }

@@ -1,9 +1,9 @@
 -- Counts of set bits: by words and fields of words, after each change, and over a range. Assumes nothing.
-use mathlib.Core.Path.{_≡_, refl, sym, ap, ap₂, _∙_, subst}
-use mathlib.Core.Logic.{_⊎_, inl, inr, _≢_}
+use mathlib.Core.Path.{_≡_, refl, sym, ap, _∙_, subst}
+use mathlib.Core.Logic.{_≢_}
 use mathlib.Core.Bool.{Bool, true, false}
-use mathlib.Core.List.{List, [], _∷_}
-use Prim.Native.Nat.{ℕ, zero, suc, _+_, _-_, _*_, _/_, _%_, _^_, _≤_, _<_}
+use mathlib.Core.List.{List}
+use Prim.Native.Nat.{ℕ, zero, suc, _+_, _-_, _*_, _/_, _%_, _^_, _≤_, _<_, max}
 use native.Mathlib.Nat.{mod-lt, mod-eq-of-lt, div-one}
 use native.Mathlib.Omega.{arith}
 use lib.Count.{ones}
@@ -15,10 +15,10 @@ use borrow.Author.Tests.{ltb-true, ltb-false, lt-ltb, eqb-true, eqb-false}
 use Rattle.sums.specs.Sums.{sumTo}
 use Rattle.sums.specs.Ids.{count}
 use Rattle.sums.specs.Rules.{Decides}
-use Rattle.sums.proofs.Sums.{sum-zero, sum-suc, sum-next, sum-ext, sum-none, sum-bound, sum-split, sum-mono, sum-groups, sum-change, sum-part, last-or}
-use Rattle.dense.specs.Bits.{digit, bit, isSet, bitsTo, anyIn, withBit, withRow}
+use Rattle.sums.proofs.Sums.{sum-zero, sum-suc, sum-next, sum-ext, sum-none, sum-bound, sum-split, sum-mono, sum-change}
+use Rattle.dense.specs.Bits.{digit, bit, isSet, bitsTo, anyIn, withBit, withRow, orWords}
 use Rattle.dense.proofs.Digits.{ones-field}
-use Rattle.dense.proofs.Bits.{bit-lt, bit-at, bit-past, bit-with-same, bit-with-other, bit-zeros, length-row, bit-row-other}
+use Rattle.dense.proofs.Bits.{bit-lt, bit-at, bit-past, bit-with-same, bit-with-other, bit-zeros, bit-or, length-row, bit-row-other}
 
 module _ (ws : List ℕ) where
   -- ---- as a sum
@@ -154,6 +154,10 @@ bits-ext xs ys n h = sum-ext (bit xs) (bit ys) n h
 pub bits-zeros : (k n : ℕ) → bitsTo (replicate k 0) n ≡ 0
 unfolding bitsTo
 bits-zeros k n = sum-none (bit (replicate k 0)) n (λ j l. bit-zeros k j)
+
+pub bits-or : (xs ys : List ℕ) (n : ℕ) → n ≤ 64 * length xs → bitsTo (orWords xs ys) n ≡ sumTo (λ (j : ℕ). max (bit xs j) (bit ys j)) n
+unfolding bitsTo
+bits-or xs ys n l = sum-ext (bit (orWords xs ys)) (λ (j : ℕ). max (bit xs j) (bit ys j)) n (λ j h. bit-or xs ys j (omega arith))
 
 module _ (ws : List ℕ) (o : ℕ) where
   -- one more, unless it was set

@@ -7,11 +7,10 @@ use native.Mathlib.Omega.{arith}
 use lib.ListN.{length}
 use lib.Dec.{ltb}
 use borrow.Author.Tests.{ltb-true, ltb-false}
-use Rattle.dense.specs.declared.Found.{Found}
 use Rattle.dense.specs.declared.Found.the-variants.{At, Nothing}
 use Rattle.dense.specs.Bits.{bit, isSet, bitsTo, firstOf, nextFrom}
-use Rattle.dense.proofs.Bits.{bit-past, bit-inside, set-one, clear-zero}
-use Rattle.dense.proofs.Counts.{bits-suc, bits-mono, bits-between, none-between}
+use Rattle.dense.proofs.Bits.{bit-past, bit-inside, isSet-one, clear-zero}
+use Rattle.dense.proofs.Counts.{bits-suc, bits-between, none-between}
 
 -- k is the first set bit at or above o
 pub record First (ws : List ℕ) (o k : ℕ) : Type 0 where
@@ -26,7 +25,7 @@ module _ (ws : List ℕ) where
   at-step o n k true e l h c r = go (ltb o k) refl
     where
       go : (t : Bool) → ltb o k ≡ t → At o ≡ At k
-      go true g = let m = bits-between ws o k o (omega arith) (ltb-true o k g) (set-one ws o e) in absurd (omega arith)
+      go true g = let m = bits-between ws o k o (omega arith) (ltb-true o k g) (isSet-one ws o e) in absurd (omega arith)
       go false g = let m = ltb-false o k g in let s : o ≡ k = omega arith in ap At s
   at-step o n k false e l h c r = go (ltb o k) refl
     where
@@ -47,7 +46,7 @@ module _ (ws : List ℕ) where
   next-at o k l h c = let b = bit-inside ws k h in first-at (64 * length ws - o) o k l (omega arith) h c
 
   none-step : (o n : ℕ) (t : Bool) → isSet ws o ≡ t → bit ws o ≡ 0 → firstOf ws (suc o) n ≡ Nothing → cond t (At o) (firstOf ws (suc o) n) ≡ Nothing
-  none-step o n true e z r = let y = set-one ws o e in absurd (omega arith)
+  none-step o n true e z r = let y = isSet-one ws o e in absurd (omega arith)
   none-step o n false e z r = r
 
   first-none : (n o : ℕ) → ((j : ℕ) → o ≤ j → j < o + n → bit ws j ≡ 0) → firstOf ws o n ≡ Nothing
@@ -64,7 +63,7 @@ module _ (ws : List ℕ) where
   is-step : (o n k : ℕ) (t : Bool) → isSet ws o ≡ t → cond t (At o) (firstOf ws (suc o) n) ≡ At k → (firstOf ws (suc o) n ≡ At k → First ws (suc o) k) → First ws o k
   is-step o n k true e h r =
       let s : o ≡ k = cc in
-      record { above = omega arith; here = sym (ap (bit ws) s) ∙ set-one ws o e; before = λ j l g. absurd (omega arith) }
+      record { above = omega arith; here = sym (ap (bit ws) s) ∙ isSet-one ws o e; before = λ j l g. absurd (omega arith) }
   is-step o n k false e h r =
       let f = r h in
       let a = f .above in

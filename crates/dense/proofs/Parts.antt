@@ -1,5 +1,6 @@
 -- A part of a pool of words, from its middle: its bits and counts are the pool's, and a change in it changes nothing else. Assumes nothing.
 use mathlib.Core.Path.{_≡_, refl, sym, ap, ap₂, _∙_}
+use mathlib.Core.Logic.{_⊎_, inl, inr}
 use mathlib.Core.Bool.{Bool, true, false}
 use mathlib.Core.List.{List, [], _∷_, _++_}
 use Prim.Native.Nat.{ℕ, zero, suc, _+_, _-_, _*_, _/_, _%_, _^_, _≤_, _<_}
@@ -8,14 +9,16 @@ use native.Mathlib.Omega.{arith}
 use lib.Bits.{bitOr}
 use lib.Dec.{eqb, ltb}
 use lib.ListN.{length, getD, set, take, drop, List·getD-append}
-use lib.Seq.{getD-take, getD-drop, getD-append-add, set-append-left, length-take-le}
-use borrow.Rule.Slice.PartMut.{mid-len, put-same}
+use lib.Seq.{getD-take, getD-drop, getD-append-add, set-append-left, length-take-le, ext-getD}
+use borrow.Rule.Slice.PartMut.{mid-len, put-same, same-len-mid}
 use borrow.Author.Tests.{ltb-true, ltb-false, lt-ltb, le-ltb}
 use Rattle.sums.specs.Sums.{sumTo}
 use Rattle.sums.proofs.Sums.{sum-ext}
-use Rattle.dense.specs.Bits.{digit, bit, isSet, bitsTo, anyIn, withBit, withRow}
+use Rattle.dense.specs.Bits.{digit, bit, isSet, bitsTo, anyIn, withBit, withRow, nextFrom}
 use Rattle.dense.specs.Parts.{part, withPart}
-use Rattle.dense.proofs.Bits.{length-row}
+use Rattle.dense.proofs.Bits.{length-row, length-with, bit-inside}
+use Rattle.dense.specs.declared.Found.the-variants.{At, Nothing}
+use Rattle.dense.proofs.Nexts.{First, next-is, next-nothing}
 use Rattle.dense.proofs.Counts.{bits-split, bits-mono}
 
 -- as the code has it, the part ends at word a + k
@@ -34,9 +37,9 @@ module _ (a k : ℕ) (ws : List ℕ) where
       let q : (64 * a + o) % 64 ≡ o % 64 = omega arith in
       ap (λ (w : ℕ). digit w (o % 64)) (word-part (o / 64) (omega arith)) ∙ sym (ap₂ (λ (x y : ℕ). digit (getD ws x 0) y) p q)
 
-  pub set-part : (o : ℕ) → o < 64 * k → isSet (part ws a k) o ≡ isSet ws (64 * a + o)
+  pub isSet-part : (o : ℕ) → o < 64 * k → isSet (part ws a k) o ≡ isSet ws (64 * a + o)
   unfolding isSet
-  set-part o l = ap (λ (d : ℕ). eqb d 1) (bit-part o l)
+  isSet-part o l = ap (λ (d : ℕ). eqb d 1) (bit-part o l)
 
   inner : (n : ℕ) → n ≤ 64 * k → sumTo (λ (j : ℕ). bit ws (64 * a + j)) n ≡ bitsTo (part ws a k) n
   unfolding bitsTo
@@ -108,26 +111,28 @@ module _ (a k : ℕ) (ws : List ℕ) (fits : a + k ≤ length ws) where
         let q : (64 * a + o) % 64 ≡ o % 64 = omega arith in
         ap₂ (λ (x y : ℕ). digit (getD (withPart ws a k ys) x 0) y) p q ∙ ap (λ (w : ℕ). digit w (o % 64)) (word-put (o / 64) (omega arith))
 
-    -- and every other bit stays
+    -- and every other word and bit stays
+    pub word-put-below : (i : ℕ) → i < a → getD (withPart ws a k ys) i 0 ≡ getD ws i 0
+    word-put-below i l = List·getD-append (take a ws) (ys ++ drop k (drop a ws)) 0 i (omega (arith, before)) ∙ getD-take a ws i 0 l
+
+    pub word-put-above : (i : ℕ) → a + k ≤ i → getD (withPart ws a k ys) i 0 ≡ getD ws i 0
+    word-put-above i l =
+        let m = i - (a + k) in
+        let e : i ≡ a + (k + m) = omega arith in
+        ap (λ (n : ℕ). getD (withPart ws a k ys) n 0) e
+        ∙ (ap (λ (n : ℕ). getD (withPart ws a k ys) (n + (k + m)) 0) (sym before)
+        ∙ (getD-append-add (take a ws) (ys ++ drop k (drop a ws)) (k + m) 0
+        ∙ (ap (λ (n : ℕ). getD (ys ++ drop k (drop a ws)) (n + m) 0) (sym long)
+        ∙ (getD-append-add ys (drop k (drop a ws)) m 0
+        ∙ (getD-drop k (drop a ws) m 0 ∙ (getD-drop a ws (k + m) 0 ∙ ap (λ (n : ℕ). getD ws n 0) (sym e)))))))
+
     pub bit-put-below : (o : ℕ) → o < 64 * a → bit (withPart ws a k ys) o ≡ bit ws o
     unfolding bit
-    bit-put-below o l =
-        let i : o / 64 < a = omega arith in
-        ap (λ (w : ℕ). digit w (o % 64))
-        (List·getD-append (take a ws) (ys ++ drop k (drop a ws)) 0 (o / 64) (omega (arith, before)) ∙ getD-take a ws (o / 64) 0 i)
+    bit-put-below o l = ap (λ (w : ℕ). digit w (o % 64)) (word-put-below (o / 64) (omega arith))
 
     pub bit-put-above : (o : ℕ) → 64 * (a + k) ≤ o → bit (withPart ws a k ys) o ≡ bit ws o
     unfolding bit
-    bit-put-above o l =
-        let m = o / 64 - (a + k) in
-        let e : o / 64 ≡ a + (k + m) = omega arith in
-        ap (λ (w : ℕ). digit w (o % 64))
-        (ap (λ (i : ℕ). getD (withPart ws a k ys) i 0) e
-        ∙ (ap (λ (i : ℕ). getD (withPart ws a k ys) (i + (k + m)) 0) (sym before)
-        ∙ (getD-append-add (take a ws) (ys ++ drop k (drop a ws)) (k + m) 0
-        ∙ (ap (λ (i : ℕ). getD (ys ++ drop k (drop a ws)) (i + m) 0) (sym long)
-        ∙ (getD-append-add ys (drop k (drop a ws)) m 0
-        ∙ (getD-drop k (drop a ws) m 0 ∙ (getD-drop a ws (k + m) 0 ∙ ap (λ (i : ℕ). getD ws i 0) (sym e))))))))
+    bit-put-above o l = ap (λ (w : ℕ). digit w (o % 64)) (word-put-above (o / 64) (omega arith))
 
     -- one bit set in the part is that bit set in the pool
     pub with-put : (o : ℕ) → o < 64 * k → withPart ws a k (withBit ys o) ≡ withBit (withPart ws a k ys) (64 * a + o)
@@ -152,3 +157,61 @@ module _ (a k : ℕ) (ws : List ℕ) (fits : a + k ≤ length ws) where
       let e : 64 * a + (0 + o) ≡ 64 * a + o = omega arith in
       with-put (withRow (part ws a k) 0 row u n) (length-row (part ws a k) 0 row u n ∙ length-part) (0 + o) (omega arith)
       ∙ ap₂ withBit (row-part row u n h s) e
+
+  -- the next bit in the part is the pool's next bit, as long as it lies in the part
+  pub next-part : (o j : ℕ) → nextFrom (part ws a k) o ≡ At j → First ws (64 * a + o) (64 * a + j)
+  next-part o j h =
+      let f = next-is (part ws a k) o j h in
+      let l : j < 64 * k = omega (arith, bit-inside (part ws a k) j (f .here), length-part) in
+      let b = f .above in
+      record {
+        above = omega arith;
+        here = sym (bit-part a k ws j l) ∙ f .here;
+        before = λ i p q. let e : i ≡ 64 * a + (i - 64 * a) = omega arith in ap (bit ws) e ∙ (sym (bit-part a k ws (i - 64 * a) (omega arith)) ∙ f .before (i - 64 * a) (omega arith) (omega arith));
+      }
+
+  pub next-part-none : (o : ℕ) → nextFrom (part ws a k) o ≡ Nothing → (i : ℕ) → 64 * a + o ≤ i → i < 64 * (a + k) → bit ws i ≡ 0
+  next-part-none o h i p q =
+      let e : i ≡ 64 * a + (i - 64 * a) = omega arith in
+      ap (bit ws) e ∙ (sym (bit-part a k ws (i - 64 * a) (omega arith)) ∙ next-nothing (part ws a k) o h (i - 64 * a) (omega arith))
+
+-- ---- chunk by chunk
+
+module _ (a k : ℕ) (ws ys : List ℕ) (fits : a + k ≤ length ws) (long : length ys ≡ k) where
+  pub length-put : length (withPart ws a k ys) ≡ length ws
+  length-put = same-len-mid a k ws ys (long ∙ sym (length-part a k ws fits))
+
+  -- the chunk holds what was put there
+  pub part-put-same : part (withPart ws a k ys) a k ≡ ys
+  part-put-same =
+      let n = length-part a k (withPart ws a k ys) (omega (arith, length-put)) in
+      ext-getD 0 (part (withPart ws a k ys) a k) ys (n ∙ sym long)
+      (λ i l. let h : i < k = omega arith in word-part a k (withPart ws a k ys) i h ∙ word-put a k ws fits ys long i h)
+
+  word-apart : (i : ℕ) → (i < a) ⊎ (a + k ≤ i) → getD (withPart ws a k ys) i 0 ≡ getD ws i 0
+  word-apart i (inl l) = word-put-below a k ws fits ys long i l
+  word-apart i (inr l) = word-put-above a k ws fits ys long i l
+
+  -- and every other chunk what it held
+  pub part-put-other : (b n : ℕ) → b + n ≤ length ws → (b + n ≤ a) ⊎ (a + k ≤ b) → part (withPart ws a k ys) b n ≡ part ws b n
+  part-put-other b n g o =
+      let p = length-part b n (withPart ws a k ys) (omega (arith, length-put)) in
+      let q = length-part b n ws g in
+      ext-getD 0 (part (withPart ws a k ys) b n) (part ws b n) (p ∙ sym q)
+      (λ i l. let h : i < n = omega arith in word-part b n (withPart ws a k ys) i h ∙ (word-apart (b + i) (apart o i h) ∙ sym (word-part b n ws i h)))
+    where
+      apart : (b + n ≤ a) ⊎ (a + k ≤ b) → (i : ℕ) → i < n → (b + i < a) ⊎ (a + k ≤ b + i)
+      apart (inl l) i h = inl (omega arith)
+      apart (inr l) i h = inr (omega arith)
+
+-- after an insert into a chunk: its own words, and every other chunk's
+module _ (a k : ℕ) (ws : List ℕ) (fits : a + k ≤ length ws) (o : ℕ) (l : o < 64 * k) where
+  pub part-with-same : part (withBit ws (64 * a + o)) a k ≡ withBit (part ws a k) o
+  part-with-same =
+      ap (λ (z : List ℕ). part z a k) (sym (with-part a k ws fits o l))
+      ∙ part-put-same a k ws (withBit (part ws a k) o) fits (length-with (part ws a k) o ∙ length-part a k ws fits)
+
+  pub part-with-other : (b n : ℕ) → b + n ≤ length ws → (b + n ≤ a) ⊎ (a + k ≤ b) → part (withBit ws (64 * a + o)) b n ≡ part ws b n
+  part-with-other b n g d =
+      ap (λ (z : List ℕ). part z b n) (sym (with-part a k ws fits o l))
+      ∙ part-put-other a k ws (withBit (part ws a k) o) fits (length-with (part ws a k) o ∙ length-part a k ws fits) b n g d

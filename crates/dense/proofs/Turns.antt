@@ -8,7 +8,7 @@ use native.Mathlib.Omega.{arith}
 use lib.Bits.{bitOr}
 use lib.ListN.{length, getD, set, take, drop, replicate, drop-of-length-le}
 use lib.Pow.{pow-pos}
-use lib.Seq.{paste, paste-suc, take-all, getD-drop}
+use lib.Seq.{paste, paste-suc}
 use Rattle.dense.specs.Bits.{orWords, withBit, withRow}
 use Rattle.dense.proofs.Digits.{one-shl}
 

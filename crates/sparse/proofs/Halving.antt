@@ -2,12 +2,12 @@
 use mathlib.Core.Path.{_≡_, refl, sym, ap, _∙_}
 use mathlib.Core.Bool.{Bool, true, false, cond}
 use mathlib.Core.List.{List}
-use Prim.Native.Nat.{ℕ, zero, suc, _+_, _-_, _/_, _≤_, _<_}
+use Prim.Native.Nat.{ℕ, zero, suc, _+_, _-_, _*_, _/_, _^_, _≤_, _<_}
 use native.Mathlib.Omega.{arith}
-use lib.Dec.{ltb, eqb}
+use lib.Dec.{leb, ltb, eqb}
 use lib.ListN.{getD}
 use mir.Val.{boolByte}
-use borrow.Author.Tests.{ltb-true, ltb-false, lt-ltb, le-ltb, eqb-true, eqb-false, eq-eqb, ne-eqb}
+use borrow.Author.Tests.{ltb-true, ltb-false, lt-ltb, le-ltb, leb-true, leb-false, eqb-true, eqb-false, eq-eqb, ne-eqb}
 use Rattle.sums.proofs.Counts.{byte-le}
 use Rattle.sparse.specs.Search.{lowerIn, lowerOf}
 
@@ -27,6 +27,20 @@ last row x lo = lo + boolByte (ltb (getD row lo 0) x)
 
 abbrev kept : List ℕ → ℕ → ℕ → ℕ → ℕ
 kept row x lo n = cond (ltb (getD row (lo + n / 2) 0) x) (lo + n / 2) lo
+
+-- a half, or nothing where the test says yes
+abbrev pub moved : Bool → ℕ → ℕ
+moved b h = h / 2 ^ (32 * boolByte b) / 2 ^ (32 * boolByte b)
+
+moved-none : (h : ℕ) → h < 2 ^ 64 → moved true h ≡ 0
+moved-none h l = omega arith
+
+moved-all : (h : ℕ) → moved false h ≡ h
+moved-all h = omega arith
+
+pub moved-le : (b : Bool) (h : ℕ) → h < 2 ^ 64 → moved b h ≤ h
+moved-le true h l = omega (arith, moved-none h l)
+moved-le false h l = omega (arith, moved-all h)
 
 module _ (row : List ℕ) (x : ℕ) where
   in-turn : (t lo n : ℕ) → 1 < n → lowerIn (suc t) row x lo n ≡ lowerIn t row x (kept row x lo n) (n - n / 2)
@@ -71,11 +85,19 @@ module _ (row : List ℕ) (len x : ℕ) where
         same = ap (λ (k : ℕ). lowerIn t row x k (n - n / 2)) (sym e) ∙ sym (in-turn row x t lo n m) ∙ b;
       }
 
-  pub halving-up : (lo n : ℕ) → Halving row len x lo n → 1 < n → getD row (lo + n / 2) 0 < x → Halving row len x (lo + n / 2) (n - n / 2)
-  halving-up lo n h m l = halving-turn lo n (lo + n / 2) h m (ap (λ (b : Bool). cond b (lo + n / 2) lo) (lt-ltb (getD row (lo + n / 2) 0) x l)) (omega arith)
-
-  pub halving-down : (lo n : ℕ) → Halving row len x lo n → 1 < n → x ≤ getD row (lo + n / 2) 0 → Halving row len x lo (n - n / 2)
-  halving-down lo n h m l = halving-turn lo n lo h m (ap (λ (b : Bool). cond b (lo + n / 2) lo) (le-ltb (getD row (lo + n / 2) 0) x l)) (omega arith)
+  -- the code moves on by a shift
+  pub halving-step : (lo n : ℕ) → Halving row len x lo n → 1 < n → n < 2 ^ 64 → Halving row len x (lo + moved (leb x (getD row (lo + n / 2) 0)) (n / 2)) (n - n / 2)
+  halving-step lo n h m l = go (leb x (getD row (lo + n / 2) 0)) refl
+    where
+      go : (b : Bool) → leb x (getD row (lo + n / 2) 0) ≡ b → Halving row len x (lo + moved (leb x (getD row (lo + n / 2) 0)) (n / 2)) (n - n / 2)
+      go true e =
+          let z : moved (leb x (getD row (lo + n / 2) 0)) (n / 2) ≡ 0 = ap (λ (b : Bool). moved b (n / 2)) e ∙ moved-none (n / 2) (omega arith) in
+          halving-turn lo n (lo + moved (leb x (getD row (lo + n / 2) 0)) (n / 2)) h m
+          (ap (λ (b : Bool). cond b (lo + n / 2) lo) (le-ltb (getD row (lo + n / 2) 0) x (leb-true x (getD row (lo + n / 2) 0) e)) ∙ (let d : lo ≡ lo + moved (leb x (getD row (lo + n / 2) 0)) (n / 2) = omega arith in d)) (omega arith)
+      go false e =
+          let z : moved (leb x (getD row (lo + n / 2) 0)) (n / 2) ≡ n / 2 = ap (λ (b : Bool). moved b (n / 2)) e ∙ moved-all (n / 2) in
+          halving-turn lo n (lo + moved (leb x (getD row (lo + n / 2) 0)) (n / 2)) h m
+          (ap (λ (b : Bool). cond b (lo + n / 2) lo) (lt-ltb (getD row (lo + n / 2) 0) x (leb-false x (getD row (lo + n / 2) 0) e)) ∙ (let d : lo + n / 2 ≡ lo + moved (leb x (getD row (lo + n / 2) 0)) (n / 2) = omega arith in d)) (omega arith)
 
   pub halving-end : (lo n : ℕ) → Halving row len x lo n → n ≤ 1 → lo + boolByte (ltb (getD row lo 0) x) ≡ lowerOf row len x
   halving-end lo n h m = sym (in-end row x (h .turns) lo n m) ∙ h .same

@@ -14,7 +14,7 @@ pub enum Place {
 
 // ---- searching
 
-// The number of offsets below a bound, by halving: as many turns for each offset asked.
+// The number of offsets below a bound, by halving. Moving on by half or by nothing is a shift and no branch: which way it goes can't be foreseen.
 pub fn below(row: &[u32], len: usize, off: u32) -> usize
     requires { ⌜ len ≤ length (now row) ⌝ }
     ensures { λ r. ⌜ r ≡ lowerOf (now (row .entry)) len off ⌝ }
@@ -28,9 +28,8 @@ pub fn below(row: &[u32], len: usize, off: u32) -> usize
         let half = n / 2;
         let mid = lo + half;
         n -= half;
-        if row[mid] < off {
-            lo = mid;
-        }
+        let t = 32 * (off <= row[mid]) as usize;
+        lo += half >> t >> t;
     }
     lo + (row[lo] < off) as usize
 }

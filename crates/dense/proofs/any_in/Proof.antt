@@ -1,16 +1,12 @@
-use Rattle.dense.proofs.Scans.{any-empty, any-one, any-first, any-word, any-last, first-passed, word-passed}
-use mathlib.Core.Path.{_≡_, refl, sym, ap, _∙_}
-use mathlib.Core.List.{List, _++_}
-use Prim.Native.Nat.{ℕ, _+_, _-_, _*_, _/_, _%_, _^_, _≤_, _<_}
+-- Invariant: as many bits below word i as below lo, so that what is found in a word, or in the last one up to hi, decides.
+use mathlib.Core.Path.{_≡_, ap, _∙_}
+use Prim.Native.Nat.{ℕ, _-_, _*_, _/_, _≤_, _<_}
 use native.Mathlib.Omega.{arith}
 use borrow.Author.Needs.{needs}
-use lib.ListN.{length, getD, set, take, drop, replicate, length-set}
-use lib.Seq.{paste}
-use Rattle.dense.specs.Bits.{bitsTo, orWords, withRow, isSet, bit, withBit}
+use Rattle.dense.specs.Bits.{bitsTo}
+use Rattle.dense.proofs.Scans.{any-empty, any-one, any-first, any-word, any-last, first-passed, word-passed}
 use Rattle.dense.proofs.any_in.Statement.{statement}
 use Rattle.dense.proofs.any_in.Tie as tie
-use Rattle.dense.proofs.any_in.Reads as reads
-use Rattle.dense.proofs.any_in.Lts as lts
 
 abbrev Inv-loop : tie.InvT-loop
 Inv-loop words lo hi first last above i₀ i = (first < i) × (i ≤ last) × (bitsTo words (64 * i) ≡ bitsTo words lo)
@@ -18,89 +14,83 @@ Inv-loop words lo hi first last above i₀ i = (first < i) × (i ≤ last) × (b
 abbrev μ-loop : tie.MeasureT-loop
 μ-loop words lo hi first last above i₀ i = last - i
 
--- src/lib.rt:57:9
 returns : tie.Need-returns Inv-loop μ-loop
 returns c = any-empty (c .before .args .words .now) (c .before .args .lo) (c .before .args .hi) (c .if1 .taken)
 
--- src/lib.rt:61:17
 mul-above : tie.Need-mul-above Inv-loop μ-loop
 mul-above c = search needs
 
--- src/lib.rt:61:17
 shared-slice-read-above : tie.Need-shared-slice-read-above Inv-loop μ-loop
 shared-slice-read-above c = search needs
 
--- src/lib.rt:61:17
 shr-above : tie.Need-shr-above Inv-loop μ-loop
 shr-above c = search needs
 
--- src/lib.rt:63:26
 sub-result : tie.Need-sub-result Inv-loop μ-loop
 sub-result c = search needs
 
--- src/lib.rt:63:16
 shl-result : tie.Need-shl-result Inv-loop μ-loop
 shl-result c = search needs
 
--- src/lib.rt:63:9
 returns-2 : tie.Need-returns-2 Inv-loop μ-loop
-returns-2 c = let a = c .before .before .before .args in any-one (a .words .now) (a .lo) (a .hi) (c .before .before .if1 .left) (c .if2 .taken)
+returns-2 c =
+    let a = c .before .before .before .args in
+    any-one (a .words .now) (a .lo) (a .hi) (c .before .before .if1 .left) (c .if2 .taken)
 
--- src/lib.rt:66:9
 returns-3 : tie.Need-returns-3 Inv-loop μ-loop
-returns-3 c = let a = c .before .before .before .before .args in any-first (a .words .now) (a .lo) (a .hi) (omega arith) (c .before .before .shared-slice-known .given (a .lo / 64) .fits) (c .if3 .taken)
+returns-3 c =
+    let a = c .before .before .before .before .args in
+    any-first (a .words .now) (a .lo) (a .hi) (omega arith) (c .before .before .shared-slice-known .given (a .lo / 64) .fits) (c .if3 .taken)
 
--- src/lib.rt:68:17
 add-i : tie.Need-add-i Inv-loop μ-loop
 add-i c = search needs
 
--- src/lib.rt:69:5
 loop-holds : tie.Need-loop-holds Inv-loop μ-loop
-loop-holds c = let a = c .before .before .before .before .args in (omega arith, omega arith, first-passed (a .words .now) (a .lo) (c .before .before .shared-slice-known .given (a .lo / 64) .fits) (c .if3 .left))
+loop-holds c =
+    let a = c .before .before .before .before .args in
+    (omega arith, omega arith, first-passed (a .words .now) (a .lo) (c .before .before .shared-slice-known .given (a .lo / 64) .fits) (c .if3 .left))
 
--- src/lib.rt:70:12
 mul-if4 : tie.Need-mul-if4 Inv-loop μ-loop
 mul-if4 c = search needs
 
--- src/lib.rt:70:12
 shared-slice-read-if4 : tie.Need-shared-slice-read-if4 Inv-loop μ-loop
 shared-slice-read-if4 c = search needs
 
--- src/lib.rt:71:13
 returns-4 : tie.Need-returns-4 Inv-loop μ-loop
-returns-4 c = let a = c .before .before .before .before .before .before .before .before .args in let l = c .before .before .before .loop in any-word (a .words .now) (l .i) (a .lo) (a .hi) (c .before .before .loop-test .taken) (c .before .shared-slice-known2 .given (l .i) .fits) (c .if4 .taken) (l .inv .2)
+returns-4 c =
+    let a = c .before .before .before .before .before .before .before .before .args in
+    let l = c .before .before .before .loop in
+    any-word (a .words .now) (l .i) (a .lo) (a .hi) (c .before .before .loop-test .taken) (c .before .shared-slice-known2 .given (l .i) .fits) (c .if4 .taken) (l .inv .2)
 
--- src/lib.rt:73:9
 add-i-2 : tie.Need-add-i-2 Inv-loop μ-loop
 add-i-2 c = search needs
 
--- src/lib.rt:69:5
 loop-less : tie.Need-loop-less Inv-loop μ-loop
 loop-less c = search needs
 
--- src/lib.rt:69:5
 loop-again : tie.Need-loop-again Inv-loop μ-loop
-loop-again c = let a = c .before .before .before .before .before .before .before .before .args in let l = c .before .before .before .loop in (omega arith, omega arith, word-passed (a .words .now) (l .i) (a .lo) (c .if4 .left) (l .inv .2))
+loop-again c =
+    let a = c .before .before .before .before .before .before .before .before .args in
+    let l = c .before .before .before .loop in
+    (omega arith, omega arith, word-passed (a .words .now) (l .i) (a .lo) (c .if4 .left) (l .inv .2))
 
--- src/lib.rt:75:5
 mul-result : tie.Need-mul-result Inv-loop μ-loop
 mul-result c = search needs
 
--- src/lib.rt:75:5
 shared-slice-read-result : tie.Need-shared-slice-read-result Inv-loop μ-loop
 shared-slice-read-result c = search needs
 
--- src/lib.rt:75:21
 sub-result-2 : tie.Need-sub-result-2 Inv-loop μ-loop
 sub-result-2 c = search needs
 
--- src/lib.rt:75:5
 shl-result-2 : tie.Need-shl-result-2 Inv-loop μ-loop
 shl-result-2 c = search needs
 
--- src/lib.rt:52:1
 returns-5 : tie.Need-returns-5 Inv-loop μ-loop
-returns-5 c = let a = c .before .before .before .before .before .before .before .args in let l = c .before .before .loop in any-last (a .words .now) (a .lo) (a .hi) (let e : a .hi / 64 ≡ l .i = omega arith in ap (λ (i : ℕ). bitsTo (a .words .now) (64 * i)) e ∙ l .inv .2)
+returns-5 c =
+    let a = c .before .before .before .before .before .before .before .args in
+    let l = c .before .before .loop in
+    any-last (a .words .now) (a .lo) (a .hi) (let e : a .hi / 64 ≡ l .i = omega arith in ap (λ (i : ℕ). bitsTo (a .words .now) (64 * i)) e ∙ l .inv .2)
 
 pub any-in-spec : {M : Type 1} → statement M
 any-in-spec =

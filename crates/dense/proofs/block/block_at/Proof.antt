@@ -1,14 +1,13 @@
+-- Invariant: the first k words are those from `at` on.
 use mathlib.Core.Path.{_≡_, sym, ap, _∙_}
 use Prim.Native.Nat.{ℕ, _-_, _≤_}
 use native.Mathlib.Omega.{arith}
-use borrow.Author.Needs.{needs}
 use lib.ListN.{set, take, drop, replicate, length-drop}
 use lib.Seq.{paste, getD-drop}
+use borrow.Author.Needs.{needs}
 use Rattle.dense.proofs.Turns.{copy-more, copy-all}
 use Rattle.dense.proofs.block.block_at.Statement.{statement}
 use Rattle.dense.proofs.block.block_at.Tie as tie
-use Rattle.dense.proofs.block.block_at.Reads as reads
-use Rattle.dense.proofs.block.block_at.Lts as lts
 
 abbrev Inv-loop : tie.InvT-loop
 Inv-loop words at block₀ k₀ block k = (k ≤ 8) × (block ≡ paste (replicate 8 0) 0 (drop at words) k)
@@ -16,39 +15,30 @@ Inv-loop words at block₀ k₀ block k = (k ≤ 8) × (block ≡ paste (replica
 abbrev μ-loop : tie.MeasureT-loop
 μ-loop words at block₀ k₀ block k = 8 - k
 
--- src/block.rt:14:5
 loop-holds : tie.Need-loop-holds Inv-loop μ-loop
 loop-holds c = search needs
 
--- src/block.rt:15:26
 add-block : tie.Need-add-block Inv-loop μ-loop
 add-block c = search needs
 
--- src/block.rt:15:20
 mul-block : tie.Need-mul-block Inv-loop μ-loop
 mul-block c = search needs
 
--- src/block.rt:15:20
 shared-slice-read-block : tie.Need-shared-slice-read-block Inv-loop μ-loop
 shared-slice-read-block c = search needs
 
--- src/block.rt:15:9
 mul-block-2 : tie.Need-mul-block-2 Inv-loop μ-loop
 mul-block-2 c = search needs
 
--- src/block.rt:15:9
 array-write-block : tie.Need-array-write-block Inv-loop μ-loop
 array-write-block c = search needs
 
--- src/block.rt:16:9
 add-k : tie.Need-add-k Inv-loop μ-loop
 add-k c = search needs
 
--- src/block.rt:14:5
 loop-less : tie.Need-loop-less Inv-loop μ-loop
 loop-less c = search needs
 
--- src/block.rt:14:5
 loop-again : tie.Need-loop-again Inv-loop μ-loop
 loop-again c =
     let l = c .before .before .loop in
@@ -58,7 +48,6 @@ loop-again c =
           ∙ copy-more (replicate 8 0) (drop (a .at) (a .words .now)) (l .block) (l .k) (omega arith) (omega (arith, length-drop (a .at) (a .words .now))) (l .inv .1),
     )
 
--- src/block.rt:8:1
 returns : tie.Need-returns Inv-loop μ-loop
 returns c =
     let l = c .before .loop in

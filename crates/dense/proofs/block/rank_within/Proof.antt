@@ -1,16 +1,15 @@
+-- Invariant: the sum is the count of bits below word i. The last word gives its digits below the offset.
+use mathlib.Core.Path.{_≡_, sym, ap, _∙_}
+use Prim.Native.Nat.{ℕ, _-_, _*_, _/_, _%_, _≤_}
+use native.Mathlib.Omega.{arith}
+use lib.ListN.{getD}
 use mir.Syntax.{w64}
 use mir.Val.{Fits}
+use borrow.Author.Needs.{needs}
+use Rattle.dense.specs.Bits.{bitsTo}
 use Rattle.dense.proofs.Counts.{bits-zero}
 use Rattle.dense.proofs.Scans.{ones-fits, counted, counted-fits, counted-low, counted-low-fits, ones-mod-fits}
 use Rattle.dense.proofs.Turns.{shl-some}
-use mathlib.Core.Path.{_≡_, refl, sym, ap, _∙_}
-use mathlib.Core.List.{List, _++_}
-use Prim.Native.Nat.{ℕ, _+_, _-_, _*_, _/_, _%_, _^_, _≤_, _<_}
-use native.Mathlib.Omega.{arith}
-use borrow.Author.Needs.{needs}
-use lib.ListN.{length, getD, set, take, drop, replicate, length-set}
-use lib.Seq.{paste}
-use Rattle.dense.specs.Bits.{bitsTo, orWords, withRow, isSet, bit, withBit}
 use Rattle.dense.proofs.block.rank_within.Statement.{statement}
 use Rattle.dense.proofs.block.rank_within.Tie as tie
 use Rattle.dense.proofs.block.rank_within.Reads as reads
@@ -25,66 +24,55 @@ abbrev μ-loop : tie.MeasureT-loop
 word-fits : (c : lts.In-loop reads.Pre reads.Post Inv-loop μ-loop) → Fits w64 (getD (c .before .before .args .t1) (c .before .loop .i) 0)
 word-fits c = search needs
 
--- src/block.rt:45:5
 loop-holds : tie.Need-loop-holds Inv-loop μ-loop
 loop-holds c = (omega arith, sym (bits-zero (c .args .t1)))
 
--- src/block.rt:46:30
 mul-n : tie.Need-mul-n Inv-loop μ-loop
 mul-n c = search needs
 
--- src/block.rt:46:30
 array-read-n : tie.Need-array-read-n Inv-loop μ-loop
 array-read-n c = search needs
 
--- src/block.rt:46:14
 cast-n : tie.Need-cast-n Inv-loop μ-loop
 cast-n c = ones-fits _ (word-fits c .fits)
 
--- src/block.rt:46:9
 add-n : tie.Need-add-n Inv-loop μ-loop
 add-n c = let l = c .before .loop in counted-fits (c .before .before .args .t1) (l .i) (l .n) (word-fits c .fits) (l .inv .1) (omega arith)
 
--- src/block.rt:47:9
 add-i : tie.Need-add-i Inv-loop μ-loop
 add-i c = search needs
 
--- src/block.rt:45:5
 loop-less : tie.Need-loop-less Inv-loop μ-loop
 loop-less c = search needs
 
--- src/block.rt:45:5
 loop-again : tie.Need-loop-again Inv-loop μ-loop
 loop-again c = let l = c .before .loop in (omega arith, counted (c .before .before .args .t1) (l .i) (l .n) (word-fits c .fits) (l .inv .1))
 
 words-counted : (c : lts.After-loop reads.Pre reads.Post Inv-loop μ-loop) → c .before .loop .n ≡ bitsTo (c .before .before .args .t1) (64 * (c .before .before .args .off / 64))
-words-counted c = let e : c .before .loop .i ≡ c .before .before .args .off / 64 = omega arith in c .before .loop .inv .1 ∙ ap (λ (i : ℕ). bitsTo (c .before .before .args .t1) (64 * i)) e
+words-counted c =
+    let e : c .before .loop .i ≡ c .before .before .args .off / 64 = omega arith in
+    c .before .loop .inv .1 ∙ ap (λ (i : ℕ). bitsTo (c .before .before .args .t1) (64 * i)) e
 
--- src/block.rt:49:25
 mul-result : tie.Need-mul-result Inv-loop μ-loop
 mul-result c = search needs
 
--- src/block.rt:49:25
 array-read-result : tie.Need-array-read-result Inv-loop μ-loop
 array-read-result c = search needs
 
--- src/block.rt:49:40
 shl-result : tie.Need-shl-result Inv-loop μ-loop
 shl-result c = search needs
 
--- src/block.rt:49:25
 rem-result : tie.Need-rem-result Inv-loop μ-loop
 rem-result c = shl-some (c .before .before .args .off % 64) (omega arith)
 
--- src/block.rt:49:9
 cast-result : tie.Need-cast-result Inv-loop μ-loop
-cast-result c = let f : Fits w64 (getD (c .before .before .args .t1) (c .before .before .args .off / 64) 0) = search needs in ones-mod-fits _ _ (f .fits)
+cast-result c =
+    let f : Fits w64 (getD (c .before .before .args .t1) (c .before .before .args .off / 64) 0) = search needs in
+    ones-mod-fits _ _ (f .fits)
 
--- src/block.rt:49:5
 add-result : tie.Need-add-result Inv-loop μ-loop
 add-result c = counted-low-fits (c .before .before .args .t1) (c .before .loop .n) (c .before .before .args .off) (words-counted c) (omega arith)
 
--- src/block.rt:38:1
 returns : tie.Need-returns Inv-loop μ-loop
 returns c = counted-low (c .before .before .args .t1) (c .before .loop .n) (c .before .before .args .off) (words-counted c)
 

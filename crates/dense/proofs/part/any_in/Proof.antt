@@ -1,40 +1,31 @@
+-- The part's range is the pool's, moved by the part's start.
 use mathlib.Core.Path.{ap, _∙_}
 use Prim.Native.Nat.{ℕ}
+use borrow.Author.Needs.{needs}
 use Rattle.dense.specs.Bits.{anyIn}
 use Rattle.dense.specs.Parts.{part}
 use Rattle.dense.proofs.Parts.{span, any-part}
-use borrow.Author.Needs.{needs}
 use Rattle.dense.proofs.part.any_in.Statement.{statement}
 use Rattle.dense.proofs.part.any_in.Tie as tie
-use Rattle.dense.proofs.part.any_in.Reads as reads
-use Rattle.dense.proofs.part.any_in.Lts as lts
-use Rattle.dense.proofs.any_in.Reads as any-in-reads
 
--- src/part.rt:43:15
 add-end : tie.Need-add-end
 add-end c = search needs
 
--- src/part.rt:44:19
 mul-any-in : tie.Need-mul-any-in
 mul-any-in c = search needs
 
--- src/part.rt:44:19
 sub-any-in : tie.Need-sub-any-in
 sub-any-in c = search needs
 
--- src/part.rt:44:19
 part-any-in-start : tie.Need-part-any-in-start
 part-any-in-start c = search needs
 
--- src/part.rt:44:19
 part-any-in-end : tie.Need-part-any-in-end
 part-any-in-end c = search needs
 
--- src/part.rt:44:5
 any-in-requires : tie.Need-any-in-requires
 any-in-requires c κs = search needs
 
--- src/part.rt:39:1
 returns : tie.Need-returns
 returns c =
     let a = c .before .before .before .args in

@@ -1,44 +1,34 @@
+-- The part goes from `start` to `start + wide`, and is put back with zeros in it.
 use mathlib.Core.Path.{ap, _∙_}
 use Prim.Native.Nat.{ℕ, _+_, _-_}
 use lib.ListN.{length, replicate}
+use borrow.Author.Needs.{needs}
 use Rattle.dense.specs.Parts.{part, withPart}
 use Rattle.dense.proofs.Parts.{span, length-part}
-use borrow.Author.Needs.{needs}
 use Rattle.dense.proofs.part.clear.Statement.{statement}
 use Rattle.dense.proofs.part.clear.Tie as tie
-use Rattle.dense.proofs.part.clear.Reads as reads
-use Rattle.dense.proofs.part.clear.Lts as lts
-use Rattle.dense.proofs.words.clear.Reads as clear-reads
 
--- src/part.rt:88:15
 add-end : tie.Need-add-end
 add-end c = search needs
 
--- src/part.rt:89:18
 mul-clear : tie.Need-mul-clear
 mul-clear c = search needs
 
--- src/part.rt:89:18
 sub-clear : tie.Need-sub-clear
 sub-clear c = search needs
 
--- src/part.rt:89:18
 part-clear-start : tie.Need-part-clear-start
 part-clear-start c = search needs
 
--- src/part.rt:89:18
 part-clear-end : tie.Need-part-clear-end
 part-clear-end c = search needs
 
--- src/part.rt:89:5
 clear-requires : tie.Need-clear-requires
 clear-requires c κs = search needs
 
--- src/part.rt:84:1
 same-length : tie.Need-same-length
 same-length c = search needs
 
--- src/part.rt:84:1
 returns : tie.Need-returns
 returns c =
     let a = c .before .before .before .before .before .args in

@@ -1,43 +1,33 @@
+-- The part goes from `start` to `start + wide`, and is put back with other words in it.
 use mathlib.Core.Path.{ap, _∙_}
 use Prim.Native.Nat.{ℕ, _+_, _-_}
+use borrow.Author.Needs.{needs}
 use Rattle.dense.specs.Parts.{withPart}
 use Rattle.dense.proofs.Parts.{span}
-use borrow.Author.Needs.{needs}
 use Rattle.dense.proofs.part.copy.Statement.{statement}
 use Rattle.dense.proofs.part.copy.Tie as tie
-use Rattle.dense.proofs.part.copy.Reads as reads
-use Rattle.dense.proofs.part.copy.Lts as lts
-use Rattle.dense.proofs.words.copy.Reads as copy-reads
 
--- src/part.rt:79:15
 add-end : tie.Need-add-end
 add-end c = search needs
 
--- src/part.rt:80:17
 mul-copy : tie.Need-mul-copy
 mul-copy c = search needs
 
--- src/part.rt:80:17
 sub-copy : tie.Need-sub-copy
 sub-copy c = search needs
 
--- src/part.rt:80:17
 part-copy-start : tie.Need-part-copy-start
 part-copy-start c = search needs
 
--- src/part.rt:80:17
 part-copy-end : tie.Need-part-copy-end
 part-copy-end c = search needs
 
--- src/part.rt:80:5
 copy-requires : tie.Need-copy-requires
 copy-requires c κs = search needs
 
--- src/part.rt:75:1
 same-length : tie.Need-same-length
 same-length c = search needs
 
--- src/part.rt:75:1
 returns : tie.Need-returns
 returns c =
     let a = c .before .before .before .before .before .before .args in

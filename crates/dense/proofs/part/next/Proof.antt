@@ -1,40 +1,31 @@
+-- The part goes from `start` to `start + wide`.
 use mathlib.Core.Path.{ap, _∙_}
 use Prim.Native.Nat.{ℕ}
+use borrow.Author.Needs.{needs}
 use Rattle.dense.specs.Bits.{nextFrom}
 use Rattle.dense.specs.Parts.{part}
 use Rattle.dense.proofs.Parts.{span}
-use borrow.Author.Needs.{needs}
 use Rattle.dense.proofs.part.next.Statement.{statement}
 use Rattle.dense.proofs.part.next.Tie as tie
-use Rattle.dense.proofs.part.next.Reads as reads
-use Rattle.dense.proofs.part.next.Lts as lts
-use Rattle.dense.proofs.next.Reads as next-reads
 
--- src/part.rt:52:15
 add-end : tie.Need-add-end
 add-end c = search needs
 
--- src/part.rt:53:17
 mul-next : tie.Need-mul-next
 mul-next c = search needs
 
--- src/part.rt:53:17
 sub-next : tie.Need-sub-next
 sub-next c = search needs
 
--- src/part.rt:53:17
 part-next-start : tie.Need-part-next-start
 part-next-start c = search needs
 
--- src/part.rt:53:17
 part-next-end : tie.Need-part-next-end
 part-next-end c = search needs
 
--- src/part.rt:53:5
 next-requires : tie.Need-next-requires
 next-requires c κs = search needs
 
--- src/part.rt:48:1
 returns : tie.Need-returns
 returns c =
     let a = c .before .before .before .args in

@@ -1,45 +1,35 @@
+-- Setting a row in the part sets it in the pool, counted from the part's start.
 use mathlib.Core.Path.{ap, _∙_}
 use Prim.Native.Nat.{ℕ, _+_, _-_, _^_}
 use lib.Pow.{pow-pos}
+use borrow.Author.Needs.{needs}
 use Rattle.dense.specs.Bits.{withRow}
 use Rattle.dense.specs.Parts.{part, withPart}
 use Rattle.dense.proofs.Parts.{span, row-part}
-use borrow.Author.Needs.{needs}
 use Rattle.dense.proofs.part.write_row.Statement.{statement}
 use Rattle.dense.proofs.part.write_row.Tie as tie
-use Rattle.dense.proofs.part.write_row.Reads as reads
-use Rattle.dense.proofs.part.write_row.Lts as lts
-use Rattle.dense.proofs.write_row.Reads as write-row-reads
 
--- src/part.rt:34:15
 add-end : tie.Need-add-end
 add-end c = search needs
 
--- src/part.rt:35:22
 mul-write-row : tie.Need-mul-write-row
 mul-write-row c = search needs
 
--- src/part.rt:35:22
 sub-write-row : tie.Need-sub-write-row
 sub-write-row c = search needs
 
--- src/part.rt:35:22
 part-write-row-start : tie.Need-part-write-row-start
 part-write-row-start c = search needs
 
--- src/part.rt:35:22
 part-write-row-end : tie.Need-part-write-row-end
 part-write-row-end c = search needs
 
--- src/part.rt:35:5
 write-row-requires : tie.Need-write-row-requires
 write-row-requires c κs = search needs
 
--- src/part.rt:30:1
 same-length : tie.Need-same-length
 same-length c = search needs
 
--- src/part.rt:30:1
 returns : tie.Need-returns
 returns c =
     let a = c .before .before .before .before .before .before .args in

@@ -1,0 +1,185 @@
+-- Each test decides its sentence of the rule, and with the walk they decide `Follows`. Assumes nothing.
+use mathlib.Core.Path.{_≡_, refl, sym, _∙_, ap, ap₂, subst}
+use mathlib.Core.Logic.{_≢_}
+use mathlib.Core.List.{List}
+use mathlib.Core.Bool.{Bool, true, false, not, _&&_}
+use Prim.Native.Nat.{ℕ, _+_, _-_, _*_, _≤_, _<_}
+use native.Mathlib.Omega.{arith}
+use lib.ListN.{getD}
+use lib.Dec.{eqb}
+use Rattle.sums.specs.Sums.{sumTo}
+use Rattle.sums.specs.Ids.{count}
+use Rattle.sums.specs.Rules.{allTo, Decides}
+use Rattle.sums.proofs.Rules.{all-of, and-of, unless-of, if-of, same-of, leb-of, ltb-of, eqb-of}
+use Rattle.dense.specs.Bits.{bitsTo}
+use Rattle.layout.specs.Mem.{Mem}
+use Rattle.layout.specs.Sizes.{top, wide, blocksOf, overAt, rowOwnersAt, pageOwnersAt, head, overCount, totalAt}
+use Rattle.layout.specs.Places.{isSparse, isDense, rowPart, pagePart, rowOwner, pageOwner}
+use Rattle.layout.specs.Entries.{entries, prefixAt, placeAt}
+use Rattle.layout.specs.Follows.{AllZero, Listed, RowListed, membersAt, kept, Laid, Follows}
+use Rattle.layout.specs.Tests.{Walked, walked}
+use Rattle.layout.proofs.Tests.{always, walked-of}
+use Rattle.layout.specs.declared.head.Header.{Header}
+use Rattle.layout.specs.declared.place.Place.{Place}
+use Rattle.layout.specs.declared.place.Place.the-variants.{Absent, Sparse, Dense}
+use Rattle.fullcheck.specs.Check.{Sound, zeroAt, zeros, overSet, offsetIs, listIs, listAt, rowIs, freeRow, freePage, owned, kindAt, countsAre, sizeAt, rankedAt, prefixIs, totalIs, blockIs, pageBlocks, tableRest, rowsAre, ranksAre, restIs, checked}
+
+-- no to P is yes to its denial
+not-sound : (a : Bool) {P : Type 0} → Decides a P → not a ≡ true → P → ⊥
+not-sound true d h p = let z : _≡_ {A = ℕ} 0 1 = cc in omega arith
+not-sound false d h p = let e : false ≡ true = d .whole p in let z : _≡_ {A = ℕ} 0 1 = cc in omega arith
+
+not-whole : (a : Bool) {P : Type 0} → Decides a P → (P → ⊥) → not a ≡ true
+not-whole true d n = absurd (n (d .sound refl))
+not-whole false d n = refl
+
+not-of : {a : Bool} {P : Type 0} → Decides a P → Decides (not a) (P → ⊥)
+not-of {a} d = record { sound = not-sound a d; whole = not-whole a d }
+
+zeros-of : (xs : List ℕ) (a n : ℕ) → Decides (zeros xs a n) (AllZero xs a n)
+unfolding zeros zeroAt
+zeros-of xs a n = all-of (zeroAt xs a) n (λ i l. eqb-of (getD xs (a + i) 0) 0)
+
+-- ---- rows
+
+Offset : List ℕ → ℕ → ℕ → ℕ → Type 0
+Offset row u l i = (getD row i 0 < u) × ((l ≤ i + 1 → ⊥) → getD row i 0 < getD row (i + 1) 0)
+
+offset-of : (row : List ℕ) (u l i : ℕ) → Decides (offsetIs row u l i) (Offset row u l i)
+unfolding offsetIs Offset
+offset-of row u l i = and-of (ltb-of (getD row i 0) u) (unless-of (leb-of l (i + 1)) (ltb-of (getD row i 0) (getD row (i + 1) 0)))
+
+list-of : (h : Header) (row : List ℕ) (l : ℕ) → Decides (listIs h row l) (Listed h row l)
+unfolding listIs Offset
+list-of h row l =
+    same-of
+    (and-of (all-of (offsetIs row (top h) l) l (λ i w. offset-of row (top h) l i)) (zeros-of row l (h .m - l)))
+    (λ q. record { below = λ i w. q .0 i w .0; rising = λ i w. q .0 i (omega arith) .1 (λ n. omega arith); rest = q .1 })
+    (λ g. ((λ i w. (g .below i w, λ n. g .rising i (less n w))), g .rest))
+  where
+    less : {i l : ℕ} → (l ≤ i + 1 → ⊥) → i < l → i + 1 < l
+    less n w = omega arith
+
+row-of : (h : Header) (rows : List ℕ) (q : Place) → Decides (listAt h rows q) (RowListed h rows q)
+row-of h rows Absent = always
+row-of h rows (Sparse r l) = list-of h (rowPart h rows r) l
+row-of h rows (Dense p) = always
+
+module _ (h : Header) (x : Mem) where
+  words-of : Decides (allTo (overSet (x .table) (16 + 2 * h .d)) (overCount (x .table))) ((j : ℕ) → j < overCount (x .table) → getD (x .table) (overAt h j + 1) 0 ≢ 0)
+  unfolding overSet
+  words-of = all-of (overSet (x .table) (16 + 2 * h .d)) (overCount (x .table)) (λ j l. not-of (eqb-of (getD (x .table) (overAt h j + 1) 0) 0))
+
+  lists-of : Decides (allTo (rowIs h (x .rows) (x .table)) (entries h (x .table))) ((e : ℕ) → e < entries h (x .table) → RowListed h (x .rows) (placeAt h (x .table) e))
+  unfolding rowIs
+  lists-of = all-of (rowIs h (x .rows) (x .table)) (entries h (x .table)) (λ e l. row-of h (x .rows) (placeAt h (x .table) e))
+
+  free-rows-of : Decides (allTo (freeRow h (x .rows) (x .table)) (h .r)) ((r : ℕ) → r < h .r → rowOwner h (x .table) r ≡ 0 → AllZero (x .rows) (r * h .m) (h .m))
+  unfolding freeRow
+  free-rows-of = all-of (freeRow h (x .rows) (x .table)) (h .r) (λ r l. if-of (eqb-of (rowOwner h (x .table) r) 0) (zeros-of (x .rows) (r * h .m) (h .m)))
+
+  free-pages-of : Decides (allTo (freePage h (x .pages) (x .table)) (h .p)) ((p : ℕ) → p < h .p → pageOwner h (x .table) p ≡ 0 → AllZero (x .pages) (p * wide h) (wide h))
+  unfolding freePage
+  free-pages-of = all-of (freePage h (x .pages) (x .table)) (h .p) (λ p l. if-of (eqb-of (pageOwner h (x .table) p) 0) (zeros-of (x .pages) (p * wide h) (wide h)))
+
+  counts-of : Decides (countsAre h (x .table))
+      ((count (λ (r : ℕ). not (eqb (rowOwner h (x .table) r) 0)) (h .r) ≡ count (λ (e : ℕ). isSparse (placeAt h (x .table) e)) (entries h (x .table)))
+      × (count (λ (p : ℕ). not (eqb (pageOwner h (x .table) p) 0)) (h .p) ≡ count (λ (e : ℕ). isDense (placeAt h (x .table) e)) (entries h (x .table))))
+  unfolding countsAre owned kindAt
+  counts-of =
+      and-of
+      (eqb-of (count (owned (x .table) (rowOwnersAt h)) (h .r)) (count (kindAt h (x .table) false) (entries h (x .table))))
+      (eqb-of (count (owned (x .table) (pageOwnersAt h)) (h .p)) (count (kindAt h (x .table) true) (entries h (x .table))))
+
+  ranks-of : Decides (ranksAre h (x .pages) (x .table))
+      (((e : ℕ) → e < entries h (x .table) → prefixAt h (x .table) e ≡ kept x (sumTo (membersAt h x) e))
+      × (totalAt (x .table) ≡ kept x (sumTo (membersAt h x) (entries h (x .table)))))
+  unfolding ranksAre prefixIs totalIs membersAt sizeAt
+  ranks-of =
+      and-of
+      (all-of (prefixIs h (x .pages) (x .table)) (entries h (x .table)) (λ e l. eqb-of (prefixAt h (x .table) e) (kept x (sumTo (membersAt h x) e))))
+      (eqb-of (totalAt (x .table)) (kept x (sumTo (membersAt h x) (entries h (x .table)))))
+
+  blocks-of : Decides (allTo (pageBlocks h (x .pages) (x .blocks) (rankedAt (x .table))) (h .p))
+      ((p : ℕ) → p < h .p → (b : ℕ) → b < blocksOf h → getD (x .blocks) (p * blocksOf h + b) 0 ≡ kept x (bitsTo (pagePart h (x .pages) p) (512 * b)))
+  unfolding pageBlocks blockIs
+  blocks-of =
+      all-of (pageBlocks h (x .pages) (x .blocks) (rankedAt (x .table))) (h .p) (λ p l.
+      all-of (blockIs (pagePart h (x .pages) p) (x .blocks) (rankedAt (x .table)) (p * blocksOf h)) (blocksOf h) (λ b m.
+      eqb-of (getD (x .blocks) (p * blocksOf h + b) 0) (kept x (bitsTo (pagePart h (x .pages) p) (512 * b)))))
+
+  -- after the walk the rest decides the whole rule
+  pub laid-of : Walked x h → Decides (restIs h x) (Laid x h)
+  unfolding restIs tableRest rowsAre
+  laid-of w =
+      same-of
+      (and-of (and-of (and-of (and-of
+      (and-of (and-of (and-of (zeros-of (x .table) 9 7) words-of) (zeros-of (x .table) (overAt h (overCount (x .table))) (3 * (h .v - overCount (x .table))))) counts-of)
+      (and-of lists-of free-rows-of)) free-pages-of) ranks-of) blocks-of)
+      (λ q. record {
+        sizes = w .sizes;
+        room = w .room;
+        mode = w .mode;
+        unused = q .0 .0 .0 .0 .0 .0 .0;
+        over-fits = w .over-fits;
+        keys = w .keys;
+        words = q .0 .0 .0 .0 .0 .0 .1;
+        spare = q .0 .0 .0 .0 .0 .1;
+        places = w .places;
+        lists = q .0 .0 .0 .1 .0;
+        free-rows = q .0 .0 .0 .1 .1;
+        free-pages = q .0 .0 .1;
+        rows-used = q .0 .0 .0 .0 .1 .0;
+        pages-used = q .0 .0 .0 .0 .1 .1;
+        prefixes = q .0 .1 .0;
+        total = q .0 .1 .1;
+        blocks = λ p b l m. q .1 p l b m;
+      })
+      (λ f. (((((((f .unused, f .words), f .spare), (f .rows-used, f .pages-used)), (f .lists, f .free-rows)), f .free-pages), (f .prefixes, f .total)), λ p l b m. f .blocks p b l m))
+
+  pub walk-of : Laid x h → Walked x h
+  walk-of f = record { sizes = f .sizes; room = f .room; mode = f .mode; over-fits = f .over-fits; keys = f .keys; places = f .places }
+
+-- ---- the rest, by slice
+
+module _ (x : Mem) (h : Header) where
+  pub sound-of : Walked x h → Sound h (x .table)
+  sound-of w = record { sizes = w .sizes; in-table = w .room .in-table; over-fits = w .over-fits; places = w .places }
+
+  pub rest-passes : (a b d e f : Bool) → a ≡ tableRest h (x .table) → b ≡ rowsAre h (x .rows) (x .table) → d ≡ allTo (freePage h (x .pages) (x .table)) (h .p) → e ≡ ranksAre h (x .pages) (x .table) → f ≡ allTo (pageBlocks h (x .pages) (x .blocks) (rankedAt (x .table))) (h .p) → (a && b && d && e && f) ≡ restIs h x
+  unfolding restIs
+  rest-passes a b d e f p q r s t = ap₂ _&&_ (ap₂ _&&_ (ap₂ _&&_ (ap₂ _&&_ p q) r) s) t
+
+-- ---- the whole check
+
+-- Q asks for P, and b decides Q where P holds
+then-sound : (a b : Bool) {P Q : Type 0} → Decides a P → (P → Decides b Q) → (a && b) ≡ true → Q
+then-sound true b d e h = e (d .sound refl) .sound h
+then-sound false b d e h = absurd (let z : _≡_ {A = ℕ} 0 1 = cc in omega arith)
+
+then-of : {a b : Bool} {P Q : Type 0} → Decides a P → (P → Decides b Q) → (Q → P) → Decides (a && b) Q
+then-of {a} {b} d e f = record {
+  sound = then-sound a b d e;
+  whole = λ q. ap₂ _&&_ (d .whole (f q)) (e (f q) .whole q);
+}
+
+pub follows-of : (x : Mem) → Decides (checked x) (Follows x)
+unfolding checked
+follows-of x = then-of (walked-of x) (laid-of (head x) x) (walk-of (head x) x)
+
+pub answered : (x : Mem) (b : Bool) → b ≡ checked x → Decides b (Follows x)
+answered x b e = record { sound = λ h. follows-of x .sound (sym e ∙ h); whole = λ f. e ∙ follows-of x .whole f }
+
+-- what the walk answered, and the sizes read as h
+module _ (x : Mem) (a : Bool) (p : a ≡ walked x) where
+  pub walk-no : a ≡ false → false ≡ checked x
+  unfolding checked
+  walk-no n = ap (λ (b : Bool). b && restIs (head x) x) (sym n ∙ p)
+
+  module _ (h : Header) (e : h ≡ head x) (y : a ≡ true) where
+    pub walk-yes : Walked x h
+    walk-yes = subst (Walked x) (sym e) (walked-of x .sound (sym p ∙ y))
+
+    pub all-told : (b : Bool) → b ≡ restIs h x → b ≡ checked x
+    unfolding checked
+    all-told b q = q ∙ (ap (λ (g : Header). restIs g x) e ∙ ap (λ (b : Bool). b && restIs (head x) x) (sym y ∙ p))

@@ -1,0 +1,3 @@
+pub mod Decide
+pub mod Ways
+pub mod Running

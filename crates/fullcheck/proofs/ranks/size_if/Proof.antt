@@ -1,0 +1,17 @@
+-- Nothing where the set is open.
+use Rattle.fullcheck.proofs.Running.{kept-no, kept-yes}
+use borrow.Author.Tests.{not-true, not-false}
+use Rattle.fullcheck.proofs.ranks.size_if.Statement.{statement}
+use Rattle.fullcheck.proofs.ranks.size_if.Tie as tie
+
+returns : tie.Need-returns
+returns c = kept-no (c .before .before .before .args .ranked) _ (not-true _ (c .if1 .taken))
+
+size-at-requires : tie.Need-size-at-requires
+size-at-requires c κs = c .before .before .before .pre
+
+returns-2 : tie.Need-returns-2
+returns-2 c = kept-yes (c .before .before .before .before .args .ranked) _ (not-false _ (c .before .if1 .left)) (c .size-at .ensures)
+
+pub size-if-spec : {M : Type 1} → statement M
+size-if-spec = tie.close (tie.spec returns size-at-requires returns-2)

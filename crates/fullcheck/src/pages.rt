@@ -1,0 +1,38 @@
+// Pages: the free ones hold zeros.
+ghost use mathlib.Core.Path.{_≡_};
+ghost use Prim.Native.Nat.{_*_, _≤_, _<_};
+ghost use lib.ListN.{length};
+ghost use Rattle.sums.specs.Rules.{allTo};
+ghost use Rattle.layout.specs.Sizes.{InRange, wide};
+ghost use Rattle.fullcheck.specs.Check.{freePage};
+use crate::zeros;
+use layout::entry;
+use layout::head;
+use layout::head::Header;
+use numbers::power;
+
+// A page without an owner holds zeros.
+pub fn free_page(pages: &[u64], table: &[u64], h: Header, p: u64) -> bool
+    requires { ⌜ InRange h × (p < h .p) × (h .p * wide h ≤ length (now pages)) ⌝ }
+    ensures { λ b. ⌜ b ≡ freePage h (now (pages .entry)) (now (table .entry)) p ⌝ }
+{
+    if entry::page_owner(table, h, p) != 0 {
+        return true;
+    }
+    zeros::zeros64(pages, head::page_at(h, p), power::pow2(h.s - 6))
+}
+
+// Sentence 12, of every page.
+pub fn free_pages(pages: &[u64], table: &[u64], h: Header) -> bool
+    requires { ⌜ InRange h × (h .p * wide h ≤ length (now pages)) ⌝ }
+    ensures { λ b. ⌜ b ≡ allTo (freePage h (now (pages .entry)) (now (table .entry))) (h .p) ⌝ }
+{
+    let n = h.p;
+    let mut ok = true;
+    let mut p: u64 = 0;
+    while p < n {
+        ok = ok & free_page(pages, table, h, p);
+        p += 1;
+    }
+    ok
+}
