@@ -17,7 +17,7 @@ use layout::head::Header;
 use layout::walk;
 
 // What the walk over the table leaves of the rule, sentence by sentence.
-pub fn rest_is(pages: &[u64], rows: &[u32], blocks: &[u32], table: &[u64], h: Header) -> bool
+fn rest_is(pages: &[u64], rows: &[u32], blocks: &[u32], table: &[u64], h: Header) -> bool
     requires { ⌜ Walked (memOf pages rows blocks table) h ⌝ }
     ensures { λ b. ⌜ b ≡ restIs h (memOf (pages .entry) (rows .entry) (blocks .entry) (table .entry)) ⌝ }
 {

@@ -1,0 +1,113 @@
+-- Counts of members and of chunks on memory that follows the layout: those of the plain set and of the map, and never a refusal. Assumes nothing.
+use mathlib.Core.Path.{_≡_, refl, sym, ap, ap₂, _∙_}
+use mathlib.Core.List.{List}
+use mathlib.Core.Bool.{Bool, true, false, cond, not, _&&_}
+use Prim.Native.Nat.{ℕ, _+_, _*_, _-_, _^_, _≤_, _<_}
+use native.Mathlib.Omega.{arith}
+use lib.ListN.{length, getD, take, drop}
+use lib.Dec.{leb, eqb}
+use borrow.Author.Tests.{le-leb}
+use Rattle.sums.specs.Sums.{sumTo}
+use Rattle.sums.specs.Ids.{count, total}
+use Rattle.sums.specs.Rules.{allTo, Decides}
+use Rattle.sums.proofs.Sums.{sum-ext, sum-none, sum-part}
+use Rattle.sums.proofs.Rules.{all-of, eqb-of, same-of, same-test}
+use Rattle.dense.specs.Bits.{bitsTo}
+use Rattle.layout.specs.Mem.{Mem}
+use Rattle.layout.specs.Sizes.{InRange, top, wide, head, overCount}
+use Rattle.layout.specs.Places.{pagePart}
+use Rattle.layout.specs.Entries.{entries, chunkAt, wordAt, placeAt}
+use Rattle.layout.specs.Short.{spotOf}
+use Rattle.layout.specs.Meaning.{holds, chunks}
+use Rattle.layout.specs.Follows.{sizeOf, membersAt, Follows}
+use Rattle.layout.specs.declared.head.Header.{Header}
+use Rattle.layout.specs.declared.answer.Truth.the-variants as truth
+use Rattle.layout.specs.declared.answer.Amount.the-variants as amount
+use Rattle.layout.specs.declared.find.Spot.{Spot}
+use Rattle.layout.specs.declared.place.Place.{Place}
+use Rattle.layout.specs.declared.place.Place.the-variants.{Absent, Sparse, Dense}
+use Rattle.layout_laws.specs.Chunks
+use Rattle.layout_laws.proofs.Entries.{laid-ordered}
+use Rattle.layout_laws.proofs.Sizes.{wide-top}
+use Rattle.layout_laws.proofs.Short.{spot-inside}
+use Rattle.layout_laws.proofs.Members.{count-total}
+use Rattle.layout_laws.proofs.ChunkCounts.{chunks-entries}
+use Rattle.calls.specs.Reading.{shiftOk, spotBy}
+use Rattle.calls.specs.Counts.{entriesOk, entriesOf, wordBy, isGood, sizeIn, goodAt, sizeAt, usedAt, partsOk, lenBy, isEmptyBy, hasAnyBy, chunksBy}
+use Rattle.calls.proofs.Readings.{shift-ok}
+
+-- ---- a part, by its place
+
+good-spot : (h : Header) (p : Place) → isGood (Chunks.spotBy h p) ≡ true
+good-spot h Absent = refl
+good-spot h (Sparse r l) = refl
+good-spot h (Dense p) = refl
+
+size-spot : (h : Header) (x : Mem) → InRange h → (p : Place) → sizeIn x (Chunks.spotBy h p) ≡ sizeOf h (x .pages) p
+size-spot h x z Absent = refl
+size-spot h x z (Sparse r l) = refl
+size-spot h x z (Dense p) = let t = wide-top h z in let e : 64 * wide h ≡ top h = omega arith in ap (bitsTo (pagePart h (x .pages) p)) e
+
+-- nothing in all is nothing anywhere
+all-zero : (f : ℕ → ℕ) (n : ℕ) → allTo (λ (e : ℕ). eqb (f e) 0) n ≡ eqb (sumTo f n) 0
+all-zero f n =
+    same-test
+    (same-of (all-of (λ (e : ℕ). eqb (f e) 0) n (λ i l. eqb-of (f i) 0)) (sum-none f n) (λ s i l. let a = sum-part f i n l in omega arith))
+    (eqb-of (sumTo f n) 0)
+
+-- ---- on memory that follows the layout
+
+module _ {x : Mem} (w : Follows x) where
+  spot-entry : (e : ℕ) → e < entriesOf x → spotBy x (wordBy x e) ≡ Chunks.spotBy (head x) (placeAt (head x) (x .table) e)
+  unfolding spotOf
+  spot-entry e l = spot-inside x (head x) (w .sizes) (w .room) (chunkAt (head x) (x .table) e) (placeAt (head x) (x .table) e) (w .places e l)
+
+  good-at : (e : ℕ) → e < entriesOf x → goodAt x e ≡ true
+  unfolding goodAt
+  good-at e l = ap isGood (spot-entry e l) ∙ good-spot (head x) (placeAt (head x) (x .table) e)
+
+  size-at : (e : ℕ) → e < entriesOf x → sizeAt x e ≡ membersAt (head x) x e
+  unfolding sizeAt membersAt
+  size-at e l = ap (sizeIn x) (spot-entry e l) ∙ size-spot (head x) x (w .sizes) (placeAt (head x) (x .table) e)
+
+  entries-ok : entriesOk (x .table) ≡ true
+  entries-ok =
+      let z = w .sizes in
+      let f = w .over-fits in
+      let r = w .room .in-table in
+      ap₂ _&&_
+      (ap₂ _&&_
+      (ap₂ _&&_ (shift-ok x z) (le-leb (getD (x .table) 2 0) 262144 (z .d-high)))
+      (le-leb (overCount (x .table)) 65536 (let v = z .v-high in omega arith)))
+      (le-leb (16 + 2 * getD (x .table) 2 0 + 3 * overCount (x .table)) (length (x .table)) (omega arith))
+
+  parts-ok : partsOk x ≡ true
+  unfolding partsOk
+  parts-ok = ap₂ _&&_ entries-ok (all-of (goodAt x) (entriesOf x) (λ e l. record { sound = λ h. h; whole = λ h. h }) .whole good-at)
+
+  size-total : sumTo (sizeAt x) (entriesOf x) ≡ total (holds x)
+  size-total = sum-ext (sizeAt x) (membersAt (head x) x) (entriesOf x) size-at ∙ sym (count-total w)
+
+  pub len-is : lenBy x ≡ amount.Of (total (holds x))
+  unfolding lenBy
+  len-is = ap (λ (b : Bool). cond b (amount.Of (sumTo (sizeAt x) (entriesOf x))) (amount.Refused 3)) parts-ok ∙ ap amount.Of size-total
+
+  pub empty-is : isEmptyBy x ≡ truth.Is (eqb (total (holds x)) 0)
+  unfolding isEmptyBy
+  empty-is =
+      ap (λ (b : Bool). cond b (truth.Is (allTo (λ (e : ℕ). eqb (sizeAt x e) 0) (entriesOf x))) (truth.Refused 3)) parts-ok
+      ∙ ap truth.Is (all-zero (sizeAt x) (entriesOf x) ∙ ap (λ (n : ℕ). eqb n 0) size-total)
+
+  used-count : count (usedAt x) (entriesOf x) ≡ chunks x
+  unfolding usedAt
+  used-count = sym (chunks-entries x (laid-ordered w))
+
+  pub chunks-is : chunksBy x ≡ amount.Of (chunks x)
+  unfolding chunksBy
+  chunks-is = ap (λ (b : Bool). cond b (amount.Of (count (usedAt x) (entriesOf x))) (amount.Refused 3)) entries-ok ∙ ap amount.Of used-count
+
+  pub any-is : hasAnyBy x ≡ truth.Is (not (eqb (chunks x) 0))
+  unfolding hasAnyBy
+  any-is =
+      ap (λ (b : Bool). cond b (truth.Is (not (eqb (count (usedAt x) (entriesOf x)) 0))) (truth.Refused 3)) entries-ok
+      ∙ ap (λ (n : ℕ). truth.Is (not (eqb n 0))) used-count

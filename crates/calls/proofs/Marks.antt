@@ -1,0 +1,83 @@
+-- An insert, prepared or not, into a dense chunk: its bit is set. Assumes nothing.
+use mathlib.Core.Path.{_≡_, refl, sym, ap, subst, _∙_}
+use mathlib.Core.List.{List}
+use mathlib.Core.Bool.{Bool, true, false, cond, _||_}
+use Prim.Native.Nat.{ℕ, _+_, _*_}
+use native.Mathlib.Omega.{arith}
+use lib.IntN.{pos}
+use lib.ListN.{length}
+use lib.Dec.{eqb}
+use Rattle.dense.specs.Bits.{isSet, withBit}
+use Rattle.dense.proofs.Bits.{length-with}
+use Rattle.layout.specs.Mem.{Mem, mem}
+use Rattle.layout.specs.Sizes.{wide, pageOwnersAt, head}
+use Rattle.layout.specs.Places.{encoded, pagePart}
+use Rattle.layout.specs.Entries.{wordOf}
+use Rattle.layout.specs.Meaning.{offsets, Kind, dense}
+use Rattle.layout.specs.Follows.{OwnsPage, Follows}
+use Rattle.layout.specs.declared.place.Place.{Place}
+use Rattle.layout.specs.declared.place.Place.the-variants.{Dense}
+use Rattle.layout_laws.proofs.Entries.{laid-ordered}
+use Rattle.layout_laws.proofs.Sizes.{wide-top, page-length}
+use Rattle.layout_laws.proofs.Walked.{laid-walked}
+use Rattle.layout_laws.proofs.Owners.{page-of}
+use Rattle.steps.specs.Writes.{putPart, putWord, putPageOwner}
+use Rattle.steps.specs.Steps.{paged}
+use Rattle.steps.specs.Effects.{PageFor, Becomes}
+use Rattle.steps.proofs.Paged.{paged-becomes}
+use Rattle.layout.specs.declared.answer.Truth.{Truth}
+use Rattle.layout.specs.declared.answer.Truth.the-variants.{Is, Refused}
+use Rattle.calls.specs.Insert.{actBy}
+use Rattle.calls.specs.Promise.{stateOf, chunkSize, grown, newAnswer, Inserts}
+use Rattle.calls.specs.declared.plan.Plan.the-variants.{Known, Mark}
+use Rattle.calls.proofs.PageEdits.{set-with}
+use Rattle.calls.proofs.Plans.{dense-word, set-same, put-same}
+use Rattle.calls.proofs.Grown.{grows}
+use Rattle.calls.proofs.Wanted.{chunk, offset, placed, Good, Into, offset-in, open-at, holds-of, kind-of, known-good, same-room}
+
+module _ {x : Mem} {n : ℕ} (i : Into x n) (q : ℕ) (e : placed x n ≡ Dense q) where
+  abbrev w : Follows x
+  w = i .follows
+
+  abbrev page : List ℕ
+  page = pagePart (head x) (x .pages) q
+
+  owns : OwnsPage (head x) (x .table) (chunk x n) q
+  owns = page-of (laid-walked w) (chunk x n) q e
+
+  page-long : length page ≡ wide (head x)
+  page-long = page-length (head x) x (w .room) q (owns .there)
+
+  -- the chunk stays where it was: its word and its page's owner are there already
+  table-same : putPageOwner (head x) (putWord (head x) (x .table) (chunk x n) (encoded (Dense q))) q (chunk x n + 1) ≡ x .table
+  table-same =
+      let a = dense-word (wordOf (head x) (x .table) (chunk x n)) q e in
+      ap (λ (t : List ℕ). putPageOwner (head x) t q (chunk x n + 1)) (put-same (head x) (x .table) (laid-ordered w) (chunk x n) (encoded (Dense q)) a (omega arith))
+      ∙ set-same (x .table) (pageOwnersAt (head x) + q) (chunk x n + 1) (owns .owner)
+
+  marked-is : paged (head x) x (chunk x n) (Dense q) q (withBit page (offset x n)) ≡ actBy x (chunk x n) (offset x n) (Mark (q * wide (head x)) (wide (head x)))
+  unfolding paged
+  marked-is = ap (mem (putPart (x .pages) (q * wide (head x)) (wide (head x)) (withBit page (offset x n))) (x .rows) (x .blocks)) table-same
+
+  marked : Becomes x (paged (head x) x (chunk x n) (Dense q) q (withBit page (offset x n))) (chunk x n) dense (isSet (withBit page (offset x n)))
+  marked =
+      paged-becomes x (chunk x n) (Dense q) q (withBit page (offset x n))
+      (record { set = open-at i; old-is = sym e; there = owns .there; long = length-with page (offset x n) ∙ page-long; came = PageFor.own-page refl })
+
+  pub mark-good : (wanted : Truth) → wanted ≡ Is true → Inserts x (pos n) wanted (Is true) (actBy x (chunk x n) (offset x n) (Mark (q * wide (head x)) (wide (head x))))
+  mark-good wanted g =
+      let t = wide-top (head x) (w .sizes) in
+      let l = page-long in
+      let o = offset-in i in
+      subst (Inserts x (pos n) wanted (Is true)) marked-is
+      (grows n dense (isSet (withBit page (offset x n))) marked
+      (λ j m. set-with page (offset x n) j (omega arith) ∙ ap (λ (p : Place). offsets (head x) x p j || eqb (offset x n) j) (sym e))
+      wanted g
+      (sym (ap (λ (k : Kind). grown k (chunkSize (stateOf x) (chunk x n)) (head x .m)) (kind-of i (Dense q) e))))
+
+  dense-if : (b : Bool) → isSet page (offset x n) ≡ b → Good x n (cond b Known (Mark (q * wide (head x)) (wide (head x))))
+  dense-if true s = known-good i (holds-of i (Dense q) e ∙ s)
+  dense-if false s = mark-good (newAnswer (stateOf x) (pos n)) (same-room i dense (kind-of i (Dense q) e) refl (holds-of i (Dense q) e ∙ s))
+
+  pub dense-good : Good x n (cond (isSet page (offset x n)) Known (Mark (q * wide (head x)) (wide (head x))))
+  dense-good = dense-if (isSet page (offset x n)) refl

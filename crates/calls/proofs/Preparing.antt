@@ -1,0 +1,154 @@
+-- `pre_allocate` on memory that follows the layout does what document 01 says. Assumes nothing.
+use mathlib.Core.Path.{_≡_, refl, sym, ap, subst, _∙_}
+use mathlib.Core.Bool.{Bool, true, false, cond}
+use Prim.Native.Nat.{ℕ, zero, suc, _+_, _/_, _^_, _≤_, _<_}
+use native.Mathlib.Omega.{arith}
+use lib.IntN.{ℤ, pos, negsuc}
+use lib.Dec.{leb, ltb}
+use mir.Val.{SFits}
+use mir.Syntax.{w64}
+use borrow.Author.Tests.{ltb-true, ltb-false, leb-true, leb-false, lt-ltb, le-ltb}
+use Rattle.numbers.proofs.Signs.{pos-below}
+use Rattle.layout.specs.Mem.{Mem}
+use Rattle.layout.specs.Sizes.{top, lastChunk, head}
+use Rattle.layout.specs.Short.{wordIn}
+use Rattle.layout.specs.Meaning.{Kind, dense, kinds, ranked}
+use Rattle.layout.specs.Follows.{Follows}
+use Rattle.layout.specs.SetUp.{Did, did}
+use Rattle.layout.specs.declared.head.Header.{Header}
+use Rattle.layout_laws.proofs.Walked.{follows-walked}
+use Rattle.numbers.proofs.Splits as splits
+use Rattle.layout.specs.declared.answer.Truth.the-variants as truth
+use Rattle.layout.specs.declared.answer.Outcome.{Outcome}
+use Rattle.layout.specs.declared.answer.Outcome.the-variants.{Done, Refused}
+use Rattle.calls.specs.Prepare.{Work, work, densedWord, densedTo, overNeeded, pagesNeeded, prepareId, prepareBy}
+use Rattle.calls.specs.Promise.{stateOf, overflows, denses, verdict, denseMap, done, prepareAnswer, Prepares}
+use Rattle.calls.proofs.Verdicts.{verdict-six, verdict-eight, verdict-room}
+use Rattle.calls.proofs.Needed.{over-needed, pages-needed, rows-enough}
+use Rattle.calls.proofs.Sofar.{Sofar, sofar-none, sofar-more}
+
+-- ---- all chunks from 0 to c
+
+module _ {x : Mem} (w : Follows x) (mode : ranked x ≡ false) (c : ℕ) (far : c < lastChunk (head x))
+    (over : overflows (head x) (denseMap (stateOf x) c) ≤ head x .v) (pages : denses (head x) (denseMap (stateOf x) c) ≤ head x .p) where
+  sofar : (n : ℕ) → n ≤ c + 1 → Sofar x n (densedTo (head x) (work x 0) n)
+  unfolding densedTo
+  sofar zero l = sofar-none w
+  sofar (suc n) l = go (sofar n (omega arith))
+    where
+      u : Work
+      u = densedTo (head x) (work x 0) n
+
+      go : Sofar x n u → Sofar x (suc n) (densedWord (head x) u n (wordIn (u .mem .table) n))
+      go s = subst (λ (h : Header). Sofar x (suc n) (densedWord h u n (wordIn (u .mem .table) n))) (s .sizes) (sofar-more x mode c n (omega arith) far u s over pages)
+
+  pub all-dense : Sofar x (c + 1) (densedTo (head x) (work x 0) (c + 1))
+  all-dense = sofar (c + 1) (omega arith)
+
+-- ---- what is said of the call
+
+abbrev Says : Mem → ℤ → Did → Type 0
+Says x z d = Prepares x z (d .answer) (d .after)
+
+not-done : (n : ℕ) → Refused n ≡ Done → ⊥
+not-done n e = let z : _≡_ {A = ℕ} 0 1 = cc in omega arith
+
+refuses-prepare : {x : Mem} → Follows x → (z : ℤ) (k : ℕ) → prepareAnswer (stateOf x) z ≡ Refused k → Says x z (did (Refused k) x)
+refuses-prepare w z k e = record {
+  answer = sym e;
+  follows = w;
+  sizes = refl;
+  mode = refl;
+  refused = λ n q. refl;
+  members = λ n. refl;
+  map = λ q. absurd (not-done k q);
+}
+
+-- below the next is at most
+less-next : (i c : ℕ) → ltb i (c + 1) ≡ leb i c
+less-next i c = go (leb i c) refl
+  where
+    go : (b : Bool) → leb i c ≡ b → ltb i (c + 1) ≡ b
+    go true e = lt-ltb i (c + 1) (let l = leb-true i c e in omega arith)
+    go false e = le-ltb i (c + 1) (let l = leb-false i c e in omega arith)
+
+done-prepare : {x : Mem} (n : ℕ) (u : Work) → Sofar x (n / top (head x) + 1) u → prepareAnswer (stateOf x) (pos n) ≡ Done → Says x (pos n) (did Done (u .mem))
+unfolding denseMap
+done-prepare {x} n u s e = record {
+  answer = sym e;
+  follows = s .follows;
+  sizes = s .sizes;
+  mode = s .mode;
+  refused = λ k q. absurd (not-done k (sym q));
+  members = s .members;
+  map = λ q i. s .map i ∙ ap (λ (b : Bool). cond b dense (kinds x i)) (less-next i (n / top (head x)));
+}
+
+module _ {x : Mem} (w : Follows x) where
+  prepare-ranked : (z : ℤ) → ranked x ≡ true → prepareAnswer (stateOf x) z ≡ Refused 4
+  unfolding prepareAnswer
+  prepare-ranked (pos n) e = ap (λ (t : Bool). cond t (Refused 4) (done (verdict (head x) (denseMap (stateOf x) (n / top (head x))) (truth.Is true)))) e
+  prepare-ranked (negsuc n) e = ap (λ (t : Bool). cond t (Refused 4) Done) e
+
+  -- a negative maximum does nothing
+  nothing-done : (n : ℕ) → ranked x ≡ false → Says x (negsuc n) (did Done x)
+  unfolding prepareAnswer
+  nothing-done n e = record {
+    answer = sym (ap (λ (t : Bool). cond t (Refused 4) Done) e);
+    follows = w;
+    sizes = refl;
+    mode = refl;
+    refused = λ k q. absurd (not-done k (sym q));
+    members = λ i. refl;
+    map = λ q i. refl;
+  }
+
+  module _ (n : ℕ) (small : n < 2 ^ 63) (mode : ranked x ≡ false) where
+    abbrev c : ℕ
+    c = n / top (head x)
+
+    abbrev map : ℕ → Kind
+    map = denseMap (stateOf x) (n / top (head x))
+
+    far : c < lastChunk (head x)
+    far = let s = w .sizes .s-high in splits.chunk-below (head x .s) n (omega arith) small
+
+    wanted : prepareAnswer (stateOf x) (pos n) ≡ done (verdict (head x) map (truth.Is true))
+    unfolding prepareAnswer
+    wanted = ap (λ (t : Bool). cond t (Refused 4) (done (verdict (head x) map (truth.Is true)))) mode
+
+    eight : overflows (head x) map ≤ head x .v → (b : Bool) → ltb (head x .p) (pagesNeeded (head x) (x .table) c) ≡ b
+        → Says x (pos n) (cond b (did (Refused 8) x) (did Done (densedTo (head x) (work x 0) (c + 1) .mem)))
+    eight ov true q =
+        let l = ltb-true (head x .p) (pagesNeeded (head x) (x .table) c) q in
+        let i = pages-needed w c far in
+        refuses-prepare w (pos n) 8 (wanted ∙ ap done (verdict-eight (head x) map (truth.Is true) ov (rows-enough w c far) (omega arith)))
+    eight ov false q =
+        let l = ltb-false (head x .p) (pagesNeeded (head x) (x .table) c) q in
+        let i = pages-needed w c far in
+        let p : denses (head x) map ≤ head x .p = omega arith in
+        done-prepare n (densedTo (head x) (work x 0) (c + 1)) (all-dense w mode c far ov p) (wanted ∙ ap done (verdict-room (head x) map (truth.Is true) ov (rows-enough w c far) p))
+
+    six : (b : Bool) → ltb (head x .v) (overNeeded (head x) (x .table) c) ≡ b
+        → Says x (pos n) (cond b (did (Refused 6) x) (cond (ltb (head x .p) (pagesNeeded (head x) (x .table) c)) (did (Refused 8) x) (did Done (densedTo (head x) (work x 0) (c + 1) .mem))))
+    six true q =
+        let l = ltb-true (head x .v) (overNeeded (head x) (x .table) c) q in
+        let i = over-needed w c far in
+        refuses-prepare w (pos n) 6 (wanted ∙ ap done (verdict-six (head x) map (truth.Is true) (omega arith)))
+    six false q =
+        let l = ltb-false (head x .v) (overNeeded (head x) (x .table) c) q in
+        let i = over-needed w c far in
+        eight (omega arith) (ltb (head x .p) (pagesNeeded (head x) (x .table) c)) refl
+
+  prepare-id : (z : ℤ) → SFits w64 z → ranked x ≡ false → Says x z (prepareId x z)
+  prepare-id (pos n) f e = six n (pos-below n f) e (ltb (head x .v) (overNeeded (head x) (x .table) (n / top (head x)))) refl
+  prepare-id (negsuc n) f e = nothing-done n e
+
+  pub prepare-says : (z : ℤ) → SFits w64 z → Prepares x z (prepareBy x z .answer) (prepareBy x z .after)
+  unfolding prepareBy
+  prepare-says z f =
+      subst (Says x z) (sym (ap (λ (b : Bool). cond b (cond (ranked x) (did (Refused 4) x) (prepareId x z)) (did (Refused 3) x)) (follows-walked w))) (go (ranked x) refl)
+    where
+      go : (b : Bool) → ranked x ≡ b → Says x z (cond b (did (Refused 4) x) (prepareId x z))
+      go true e = refuses-prepare w z 4 (prepare-ranked z e)
+      go false e = prepare-id z f e

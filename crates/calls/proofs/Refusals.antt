@@ -1,0 +1,76 @@
+-- A refusal changes nothing, on any memory. Assumes nothing.
+use mathlib.Core.Path.{_≡_, refl}
+use mathlib.Core.Bool.{Bool, true, false, cond}
+use Prim.Native.Nat.{ℕ, _+_, _/_}
+use native.Mathlib.Omega.{arith}
+use lib.IntN.{ℤ, pos, negsuc}
+use lib.ListN.{getD}
+use lib.Dec.{ltb, eqb}
+use Rattle.numbers.specs.Ids.{splitOf}
+use Rattle.numbers.specs.declared.Split.{Split}
+use Rattle.numbers.specs.declared.Split.the-variants as split
+use Rattle.layout.specs.Mem.{Mem}
+use Rattle.layout.specs.Sizes.{top, head, modeAt}
+use Rattle.layout.specs.Tests.{walked}
+use Rattle.layout.specs.SetUp.{Did, did}
+use Rattle.layout.specs.declared.head.Header.{Header}
+use Rattle.layout.specs.declared.answer.Truth.the-variants as truth
+use Rattle.layout.specs.declared.answer.Outcome.the-variants.{Done, Refused}
+use Rattle.calls.specs.Insert.{planBy, actSplit, answerOf, insertBy, preparedPlan, preparedBy}
+use Rattle.calls.specs.Prepare.{work, densedTo, overNeeded, pagesNeeded, prepareTo, prepareId, prepareBy}
+use Rattle.calls.specs.declared.plan.Plan.{Plan}
+use Rattle.calls.specs.declared.plan.Plan.the-variants.{Refuse, Known, Mark, Enter, Begin, Turn}
+
+-- ---- inserts
+
+pub is-refused : (b : Bool) (n : ℕ) → truth.Is b ≡ truth.Refused n → ⊥
+is-refused b n e = let z : _≡_ {A = ℕ} 0 1 = cc in omega arith
+
+act-refused : (x : Mem) (s : Split) (q : Plan) (n : ℕ) → answerOf q ≡ truth.Refused n → actSplit x s q ≡ x
+act-refused x (split.At c o) (Refuse k) n e = refl
+act-refused x (split.At c o) Known n e = refl
+act-refused x (split.At c o) (Mark a k) n e = absurd (is-refused true n e)
+act-refused x (split.At c o) (Enter a k l i w) n e = absurd (is-refused true n e)
+act-refused x (split.At c o) (Begin r) n e = absurd (is-refused true n e)
+act-refused x (split.At c o) (Turn r l p) n e = absurd (is-refused true n e)
+act-refused x split.Negative q n e = refl
+
+pub insert-refused : (x : Mem) (z : ℤ) (n : ℕ) → insertBy x z .answer ≡ truth.Refused n → insertBy x z .after ≡ x
+unfolding insertBy
+insert-refused x z n e = act-refused x (splitOf (getD (x .table) 0 0) z) (planBy x (splitOf (getD (x .table) 0 0) z)) n e
+
+pub prepared-refused : (x : Mem) (z : ℤ) (n : ℕ) → preparedBy x z .answer ≡ truth.Refused n → preparedBy x z .after ≡ x
+unfolding preparedBy
+prepared-refused x z n e = act-refused x (splitOf (getD (x .table) 0 0) z) (preparedPlan x (splitOf (getD (x .table) 0 0) z)) n e
+
+-- ---- preparation
+
+abbrev Same : Mem → Did → Type 0
+Same x d = (n : ℕ) → d .answer ≡ Refused n → d .after ≡ x
+
+same-cond : (x : Mem) (b : Bool) (d e : Did) → Same x d → Same x e → Same x (cond b d e)
+same-cond x true d e p q = p
+same-cond x false d e p q = q
+
+same-refused : (x : Mem) (k : ℕ) → Same x (did (Refused k) x)
+same-refused x k n e = refl
+
+same-done : (x y : Mem) → Same x (did Done y)
+same-done x y n e = absurd (let z : _≡_ {A = ℕ} 0 1 = cc in omega arith)
+
+same-to : (h : Header) (x : Mem) (c : ℕ) → Same x (prepareTo h x c)
+same-to h x c =
+    let d = did Done (densedTo h (work x 0) (c + 1) .mem) in
+    same-cond x (ltb (h .v) (overNeeded h (x .table) c)) (did (Refused 6) x) (cond (ltb (h .p) (pagesNeeded h (x .table) c)) (did (Refused 8) x) d) (same-refused x 6)
+    (same-cond x (ltb (h .p) (pagesNeeded h (x .table) c)) (did (Refused 8) x) d (same-refused x 8) (same-done x (densedTo h (work x 0) (c + 1) .mem)))
+
+same-id : (x : Mem) (z : ℤ) → Same x (prepareId x z)
+same-id x (pos n) = same-to (head x) x (n / top (head x))
+same-id x (negsuc n) = same-done x x
+
+pub prepare-refused : (x : Mem) (z : ℤ) (n : ℕ) → prepareBy x z .answer ≡ Refused n → prepareBy x z .after ≡ x
+unfolding prepareBy
+prepare-refused x z =
+    same-cond x (walked x) (cond (eqb (modeAt (x .table)) 1) (did (Refused 4) x) (prepareId x z)) (did (Refused 3) x)
+    (same-cond x (eqb (modeAt (x .table)) 1) (did (Refused 4) x) (prepareId x z) (same-refused x 4) (same-id x z))
+    (same-refused x 3)

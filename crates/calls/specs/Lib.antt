@@ -1,0 +1,6 @@
+pub mod Reading
+pub mod Counts
+pub mod Insert
+pub mod Prepare
+pub mod Promise
+pub mod Cases

@@ -1,0 +1,9 @@
+pub mod Parts
+pub mod Puts
+pub mod Table
+pub mod Words
+pub mod Keeps
+pub mod Slots
+pub mod Rowed
+pub mod Paged
+pub mod Gaps

@@ -1,0 +1,177 @@
+-- The step `rowed`: chunk c into row r. Assumes nothing.
+use mathlib.Core.Path.{_≡_, refl, sym, ap, subst, _∙_}
+use mathlib.Core.Logic.{_⊎_, inl, inr, _≢_}
+use mathlib.Core.List.{List}
+use mathlib.Core.Bool.{false, not}
+use Prim.Native.Nat.{ℕ, _+_, _-_, _*_, _≤_, _<_}
+use native.Mathlib.Omega.{arith}
+use lib.ListN.{length, getD, set}
+use lib.Seq.{getD-set-same, getD-set-other}
+use lib.Dec.{eqb}
+use mir.Val.{boolByte}
+use Rattle.sums.proofs.Counts.{count-ext}
+use Rattle.sparse.specs.Row.{rowOf, member}
+use Rattle.layout.specs.Mem.{Mem}
+use Rattle.layout.specs.Sizes.{wide, rowOwnersAt, pageOwnersAt, head, overCount}
+use Rattle.layout.specs.Places.{decoded, encoded, isSparse, isDense, rowOwner, pageOwner}
+use Rattle.layout.specs.Entries.{entries, chunkAt, placeOf}
+use Rattle.layout.specs.Meaning.{sparse, kindOf, offsets}
+use Rattle.layout.specs.Follows.{AllZero, Owned, Listed, RowListed, Laid}
+use Rattle.layout.specs.declared.head.Header.{Header}
+use Rattle.layout.specs.declared.place.Place.{Place}
+use Rattle.layout.specs.declared.place.Place.the-variants.{Absent, Sparse, Dense}
+use Rattle.layout.proofs.Places.{decoded-encoded-sparse}
+use Rattle.layout_laws.proofs.Entries.{laid-ordered}
+use Rattle.layout_laws.proofs.Owners.{row-of}
+use Rattle.layout_laws.proofs.Walked.{laid-walked}
+use Rattle.steps.specs.Writes.{putWord, putRow}
+use Rattle.steps.specs.Steps.{rowed}
+use Rattle.steps.specs.Effects.{RowFor, new-row, own-row, RowedOk, Becomes}
+use Rattle.steps.proofs.Parts.{slot-in, length-put, slot-put, slot-kept, zero-kept}
+use Rattle.steps.proofs.Puts.{same-or}
+use Rattle.steps.proofs.Table.{Worded, owner-set}
+use Rattle.steps.proofs.Words.{put-word}
+use Rattle.steps.proofs.Slots.{entry-free, entry-none, taken, not-taken, used-change}
+use Rattle.steps.proofs.Keeps.{Untouched, rowsUsed, pagesUsed, Stepped, becomes}
+
+module _ (h : Header) (x : Mem) (L : Laid x h) (c r l : ℕ) (row : List ℕ) (there : r < h .r) (some : 1 ≤ l) (short : l ≤ h .m) (long : length row ≡ h .m) (listed : Listed h row l) (came : RowFor h (x .table) c r) where
+  -- the word, and the table with it
+  w : ℕ
+  w = encoded (Sparse r l)
+
+  word-is : decoded w ≡ Sparse r l
+  unfolding w
+  word-is = let z = L .sizes in decoded-encoded-sparse r l (omega arith) (omega arith)
+
+  worded : Worded h (x .table) (putWord h (x .table) c w) c w
+  worded = put-word h (x .table) (laid-ordered L) (L .room .in-table) (L .over-fits) c w (λ none. free none came)
+    where
+      free : ((e : ℕ) → e < entries h (x .table) → chunkAt h (x .table) e ≢ c) → RowFor h (x .table) c r → overCount (x .table) < h .v
+      free none (new-row a o f) = entry-free h (x .table) c none f
+      free none (own-row k q) = absurd (let a = entry-none h (x .table) c none in let z : _≡_ {A = ℕ} 0 1 = cc in omega arith)
+
+  y : Mem
+  y = rowed h x c r l row
+
+  table-is : y .table ≡ set (putWord h (x .table) c w) (rowOwnersAt h + r) (c + 1)
+  unfolding y w rowed
+  table-is = refl
+
+  rows-are : y .rows ≡ putRow h (x .rows) r row
+  unfolding y rowed
+  rows-are = refl
+
+  inside : rowOwnersAt h + r < length (putWord h (x .table) c w)
+  inside = let n = worded .wrote .len in let m = L .room .in-table in omega arith
+
+  owner-here : rowOwner h (y .table) r ≡ c + 1
+  owner-here = ap (λ (u : List ℕ). rowOwner h u r) table-is ∙ getD-set-same (putWord h (x .table) c w) (rowOwnersAt h + r) (c + 1) 0 inside
+
+  owner-off : (i : ℕ) → rowOwnersAt h ≤ i → i ≢ rowOwnersAt h + r → getD (y .table) i 0 ≡ getD (x .table) i 0
+  owner-off i m d = ap (λ (u : List ℕ). getD u i 0) table-is ∙ getD-set-other (putWord h (x .table) c w) (rowOwnersAt h + r) i (c + 1) 0 d ∙ worded .owners i m
+
+  row-off : (j : ℕ) → j ≢ r → rowOwner h (y .table) j ≡ rowOwner h (x .table) j
+  row-off j d = owner-off (rowOwnersAt h + j) (omega arith) (omega arith)
+
+  page-same : (p : ℕ) → pageOwner h (y .table) p ≡ pageOwner h (x .table) p
+  page-same p = owner-off (pageOwnersAt h + p) (omega arith) (omega arith)
+
+  room : r * h .m + h .m ≤ length (x .rows)
+  room = slot-in (h .m) (h .r) r (length (x .rows)) there (L .room .in-rows)
+
+  own-owner : (k : ℕ) → placeOf h (x .table) c ≡ Sparse r k → rowOwner h (x .table) r ≡ c + 1
+  own-owner k q = row-of (laid-walked L) c r k q .owner
+
+  -- no other chunk has this row
+  owner-was : (i : ℕ) → i ≢ c → rowOwner h (x .table) r ≢ i + 1
+  owner-was i d e = go came
+    where
+      go : RowFor h (x .table) c r → ⊥
+      go (new-row a o f) = omega arith
+      go (own-row k q) = let o = own-owner k q in d (omega arith)
+
+  others : (i : ℕ) (q : Place) → i ≢ c → Owned h (x .table) i q → Untouched h x y q
+  unfolding y rowed
+  others i Absent d o = tt
+  others i (Sparse j k) d o =
+      let n : j ≢ r = λ e. owner-was i d (ap (rowOwner h (x .table)) (sym e) ∙ o .owner) in
+      (row-off j n, slot-kept (x .rows) (h .m) r row long room j n)
+  others i (Dense p) d o = (page-same p, refl)
+
+  rows-free : (j : ℕ) → j < h .r → rowOwner h (y .table) j ≡ 0 → AllZero (y .rows) (j * h .m) (h .m)
+  unfolding y rowed
+  rows-free j m z = go (same-or j r)
+    where
+      go : (j ≡ r) ⊎ (j ≢ r) → AllZero (putRow h (x .rows) r row) (j * h .m) (h .m)
+      go (inl e) = absurd (let a = ap (rowOwner h (y .table)) e in let b = owner-here in omega arith)
+      go (inr d) = zero-kept (x .rows) (h .m) r row long room j d (L .free-rows j m (sym (row-off j d) ∙ z))
+
+  pages-free : (p : ℕ) → p < h .p → pageOwner h (y .table) p ≡ 0 → AllZero (y .pages) (p * wide h) (wide h)
+  unfolding y rowed
+  pages-free p m z = L .free-pages p m (sym (page-same p) ∙ z)
+
+  rows-change : rowsUsed h (y .table) + boolByte (not (eqb (rowOwner h (x .table) r) 0)) ≡ rowsUsed h (x .table) + boolByte (isSparse (decoded w))
+  rows-change =
+      let a = used-change (rowOwner h (x .table)) (rowOwner h (y .table)) r (h .r) there (λ j m d. row-off j d) in
+      let b = ap (λ (q : Place). boolByte (isSparse q)) word-is in
+      omega (arith, taken (rowOwner h (y .table) r) c owner-here)
+
+  rows-count : rowsUsed h (y .table) + boolByte (isSparse (placeOf h (x .table) c)) ≡ rowsUsed h (x .table) + boolByte (isSparse (decoded w))
+  rows-count = go came
+    where
+      go : RowFor h (x .table) c r → rowsUsed h (y .table) + boolByte (isSparse (placeOf h (x .table) c)) ≡ rowsUsed h (x .table) + boolByte (isSparse (decoded w))
+      go (new-row q o f) = let a = ap (λ (q : Place). boolByte (isSparse q)) q in omega (arith, rows-change, not-taken (rowOwner h (x .table) r) o)
+      go (own-row k q) =
+          let a = ap (λ (q : Place). boolByte (isSparse q)) q in
+          omega (arith, rows-change, taken (rowOwner h (x .table) r) c (own-owner k q))
+
+  not-dense : isDense (placeOf h (x .table) c) ≡ false
+  not-dense = go came
+    where
+      go : RowFor h (x .table) c r → isDense (placeOf h (x .table) c) ≡ false
+      go (new-row q o f) = ap isDense q
+      go (own-row k q) = ap isDense q
+
+  pages-count : pagesUsed h (y .table) + boolByte (isDense (placeOf h (x .table) c)) ≡ pagesUsed h (x .table) + boolByte (isDense (decoded w))
+  pages-count =
+      let a = count-ext (λ (p : ℕ). not (eqb (pageOwner h (y .table) p) 0)) (λ (p : ℕ). not (eqb (pageOwner h (x .table) p) 0)) (h .p) (λ p m. ap (λ (v : ℕ). not (eqb v 0)) (page-same p)) in
+      let b = ap boolByte not-dense in
+      let e = ap (λ (q : Place). boolByte (isDense q)) word-is in
+      omega arith
+
+  pub row-stepped : Stepped h x (rowed h x c r l row) c (encoded (Sparse r l))
+  unfolding y w rowed
+  row-stepped =
+      record {
+        wrote = owner-set h (x .table) (putWord h (x .table) c w) c w (rowOwnersAt h + r) (c + 1) (worded .wrote) (omega arith);
+        some = omega arith;
+        rows-long = length-put (x .rows) (r * h .m) (h .m) row long room;
+        pages-long = refl;
+        blocks = refl;
+        owned = subst (Owned h (y .table) c) (sym word-is) (record { there = there; some = some; short = short; owner = owner-here });
+        listed = subst (RowListed h (y .rows)) (sym word-is) (subst (λ (u : List ℕ). Listed h u l) (sym (slot-put (x .rows) (h .m) r row long room)) listed);
+        others = others;
+        free-rows = rows-free;
+        free-pages = pages-free;
+        rows-used = rows-count;
+        pages-used = pages-count;
+      }
+
+  pub row-offsets : (o : ℕ) → offsets h (rowed h x c r l row) (decoded (encoded (Sparse r l))) o ≡ member (rowOf row) l o
+  unfolding w rowed
+  row-offsets o =
+      ap (λ (q : Place). offsets h (rowed h x c r l row) q o) word-is
+      ∙ ap (λ (u : List ℕ). member (rowOf u) l o) (slot-put (x .rows) (h .m) r row long room)
+
+  pub row-kind : kindOf (decoded (encoded (Sparse r l))) ≡ sparse
+  unfolding w
+  row-kind = ap kindOf word-is
+
+-- the layout is kept, and chunk c is sparse with the members of the list
+pub rowed-becomes : (x : Mem) (c r l : ℕ) (row : List ℕ) → RowedOk x c r l row → Becomes x (rowed (head x) x c r l row) c sparse (member (rowOf row) l)
+rowed-becomes x c r l row k =
+    let L = k .set .follows in
+    becomes x (rowed (head x) x c r l row) c (encoded (Sparse r l)) sparse (member (rowOf row) l) (k .set)
+    (row-stepped (head x) x L c r l row (k .there) (k .some) (k .short) (k .long) (k .listed) (k .came))
+    (row-kind (head x) x L c r l row (k .there) (k .some) (k .short) (k .long) (k .listed) (k .came))
+    (row-offsets (head x) x L c r l row (k .there) (k .some) (k .short) (k .long) (k .listed) (k .came))

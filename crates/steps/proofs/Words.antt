@@ -1,0 +1,216 @@
+-- A chunk's word put into the table: in its direct entry, in its overflow entry, or in a new overflow entry. Assumes nothing.
+use mathlib.Core.Path.{_≡_, refl, sym, ap, subst, _∙_}
+use mathlib.Core.Logic.{inl, inr, _≢_}
+use mathlib.Core.List.{List, _∷_, _++_}
+use mathlib.Core.Bool.{Bool, true, false, cond, _&&_}
+use Prim.Native.Nat.{ℕ, suc, _+_, _-_, _*_, _≤_, _<_}
+use native.Mathlib.Omega.{arith}
+use lib.ListN.{length, getD, set, take, drop, length-set, length-drop}
+use lib.Seq.{getD-set-same, getD-set-other, length-take-le, getD-take, getD-drop}
+use lib.Dec.{ltb, eqb}
+use borrow.Author.Tests.{ltb-true, ltb-false, eqb-true, eqb-false, le-leb}
+use Rattle.sums.proofs.Sums.{Inserted}
+use Rattle.layout.specs.Sizes.{directAt, overAt, tableSize, overCount}
+use Rattle.layout.specs.Entries.{entries, chunkAt, wordAt, prefixAt}
+use Rattle.layout.specs.Short.{overPlace}
+use Rattle.layout.specs.declared.head.Header.{Header}
+use Rattle.layout_laws.proofs.Keys.{Cut, cut-missed}
+use Rattle.layout_laws.proofs.Halving.{lower-first}
+use Rattle.layout_laws.proofs.Entries.{chunk-direct, word-direct, prefix-direct, chunk-over, word-over, prefix-over, Which, direct, over, which, Ordered}
+use Rattle.layout_laws.proofs.Short.{over-rising}
+use Rattle.steps.specs.Writes.{putPart, added, addedIf, overPut, putWord}
+use Rattle.steps.proofs.Parts.{length-put, put-in, put-off}
+use Rattle.steps.proofs.Puts as puts
+use Rattle.steps.proofs.Table.{Worded, word-set}
+
+-- ---- a cut of the overflow entries is one of all entries
+
+module _ (h : Header) (t : List ℕ) (c k : ℕ) (ge : h .d ≤ c) (cut : Cut (λ (j : ℕ). getD t (overAt h j) 0) (overCount t) k c) (none : (j : ℕ) → j < overCount t → getD t (overAt h j) 0 ≢ c) where
+  cut-entries : Cut (chunkAt h t) (entries h t) (h .d + k) c
+  cut-entries =
+      record {
+        fits = let f = cut .fits in omega arith;
+        before = λ e l. before e l (which (h .d) e);
+        after = λ e l m. after e l m (which (h .d) e);
+      }
+    where
+      before : (e : ℕ) → e < h .d + k → Which (h .d) e → chunkAt h t e < c
+      before e l (direct m) = let q = chunk-direct h t e m in omega arith
+      before e l (over j q) = let r = ap (chunkAt h t) q ∙ chunk-over h t j in let s = cut .before j (omega arith) in omega arith
+
+      after : (e : ℕ) → h .d + k ≤ e → e < entries h t → Which (h .d) e → c ≤ chunkAt h t e
+      after e l m (direct n) = absurd (omega arith)
+      after e l m (over j q) = let r = ap (chunkAt h t) q ∙ chunk-over h t j in let s = cut .after j (omega arith) (omega arith) in omega arith
+
+  none-entries : (e : ℕ) → e < entries h t → chunkAt h t e ≢ c
+  none-entries e l = go (which (h .d) e)
+    where
+      go : Which (h .d) e → chunkAt h t e ≢ c
+      go (direct m) = let q = chunk-direct h t e m in omega arith
+      go (over j q) = λ r. none j (omega arith) (sym (ap (chunkAt h t) q ∙ chunk-over h t j) ∙ r)
+
+-- ---- a new overflow entry
+
+-- the entries from k on, behind the new one
+moved : Header → List ℕ → ℕ → ℕ → ℕ → List ℕ
+moved h t c w k = c ∷ w ∷ 0 ∷ take (3 * (overCount t - k)) (drop (overAt h k) t)
+
+module _ (h : Header) (t : List ℕ) (c w k : ℕ) (le : k ≤ overCount t) (room : overAt h (overCount t + 1) ≤ length t) where
+  pushed : List ℕ
+  pushed = putPart t (overAt h k) (3 * (overCount t - k) + 3) (moved h t c w k)
+
+  added-is : added h t c w k ≡ set pushed 7 (overCount t + 1)
+  unfolding added pushed putPart moved
+  added-is =
+      let e : overAt h (overCount t + 1) ≡ overAt h k + (3 * (overCount t - k) + 3) = omega arith in
+      ap (λ (i : ℕ). set (take (overAt h k) t ++ (c ∷ w ∷ 0 ∷ (take (3 * (overCount t - k)) (drop (overAt h k) t) ++ drop i t))) 7 (overCount t + 1)) e
+
+  long : length (moved h t c w k) ≡ 3 * (overCount t - k) + 3
+  unfolding moved
+  long =
+      let d = length-drop (overAt h k) t in
+      let e = length-take-le (3 * (overCount t - k)) (drop (overAt h k) t) (omega arith) in
+      omega arith
+
+  whole : overAt h k + (3 * (overCount t - k) + 3) ≤ length t
+  whole = omega arith
+
+  read : (i : ℕ) → i ≢ 7 → getD (added h t c w k) i 0 ≡ getD pushed i 0
+  read i d = ap (λ (u : List ℕ). getD u i 0) added-is ∙ getD-set-other pushed 7 i (overCount t + 1) 0 d
+
+  pub added-length : length (added h t c w k) ≡ length t
+  unfolding pushed
+  added-length = ap length added-is ∙ length-set pushed 7 (overCount t + 1) ∙ length-put t (overAt h k) (3 * (overCount t - k) + 3) (moved h t c w k) long whole
+
+  pub added-over : overCount (added h t c w k) ≡ overCount t + 1
+  unfolding pushed
+  added-over =
+      ap overCount added-is
+      ∙ getD-set-same pushed 7 (overCount t + 1) 0 (let n = length-put t (overAt h k) (3 * (overCount t - k) + 3) (moved h t c w k) long whole in omega arith)
+
+  pub added-low : (i : ℕ) → i ≢ 7 → i < overAt h k → getD (added h t c w k) i 0 ≡ getD t i 0
+  unfolding pushed
+  added-low i d l = read i d ∙ put-off t (overAt h k) (3 * (overCount t - k) + 3) (moved h t c w k) long whole i (inl l)
+
+  pub added-high : (i : ℕ) → overAt h (overCount t + 1) ≤ i → getD (added h t c w k) i 0 ≡ getD t i 0
+  unfolding pushed
+  added-high i l = read i (omega arith) ∙ put-off t (overAt h k) (3 * (overCount t - k) + 3) (moved h t c w k) long whole i (inr (omega arith))
+
+  added-in : (j i : ℕ) → i ≡ overAt h k + j → j < 3 * (overCount t - k) + 3 → getD (added h t c w k) i 0 ≡ getD (moved h t c w k) j 0
+  unfolding pushed
+  added-in j i e l =
+      read i (omega arith) ∙ ap (λ (n : ℕ). getD pushed n 0) e ∙ put-in t (overAt h k) (3 * (overCount t - k) + 3) (moved h t c w k) long whole j l
+
+  pub added-chunk : getD (added h t c w k) (overAt h k) 0 ≡ c
+  unfolding moved
+  added-chunk = added-in 0 (overAt h k) (omega arith) (omega arith)
+
+  pub added-word : getD (added h t c w k) (overAt h k + 1) 0 ≡ w
+  unfolding moved
+  added-word = added-in 1 (overAt h k + 1) (omega arith) (omega arith)
+
+  pub added-prefix : getD (added h t c w k) (overAt h k + 2) 0 ≡ 0
+  unfolding moved
+  added-prefix = added-in 2 (overAt h k + 2) (omega arith) (omega arith)
+
+  -- each element of the later entries is three further on
+  pub added-up : (i n : ℕ) → overAt h k ≤ i → i < overAt h (overCount t) → n ≡ i + 3 → getD (added h t c w k) n 0 ≡ getD t i 0
+  unfolding moved
+  added-up i n a b q =
+      let j = i - overAt h k in
+      let e : n ≡ overAt h k + suc (suc (suc j)) = omega arith in
+      let g : overAt h k + j ≡ i = omega arith in
+      added-in (suc (suc (suc j))) n e (omega arith)
+      ∙ getD-take (3 * (overCount t - k)) (drop (overAt h k) t) j 0 (omega arith)
+      ∙ getD-drop (overAt h k) t j 0
+      ∙ ap (λ (i : ℕ). getD t i 0) g
+
+  -- a column of the directory, whose overflow part stands at place
+  column : (f g place : ℕ → ℕ) (q v : ℕ) → q < 3 → ((j : ℕ) → place j ≡ overAt h j + q) → ((j : ℕ) → f (h .d + j) ≡ getD t (place j) 0) → ((j : ℕ) → g (h .d + j) ≡ getD (added h t c w k) (place j) 0) →
+      ((j : ℕ) → j < h .d → g j ≡ f j) → getD (added h t c w k) (place k) 0 ≡ v → Inserted f g (h .d + k) (entries h t) v
+  column f g place q v small where-is f-over g-over low here =
+      record {
+        fits = omega arith;
+        below = λ j l. below j l (which (h .d) j);
+        here = g-over k ∙ here;
+        above = λ j l m. above j l m (which (h .d) j);
+      }
+    where
+      below : (j : ℕ) → j < h .d + k → Which (h .d) j → g j ≡ f j
+      below j l (direct m) = low j m
+      below j l (over i e) = ap g e ∙ g-over i ∙ added-low (place i) (omega (arith, where-is i)) (omega (arith, where-is i)) ∙ sym (ap f e ∙ f-over i)
+
+      above : (j : ℕ) → h .d + k ≤ j → j < entries h t → Which (h .d) j → g (suc j) ≡ f j
+      above j l m (direct n) = absurd (omega arith)
+      above j l m (over i e) =
+          let u : suc j ≡ h .d + suc i = omega arith in
+          ap g u ∙ g-over (suc i)
+          ∙ added-up (place i) (place (suc i)) (omega (arith, where-is i)) (omega (arith, where-is i)) (omega (arith, where-is i, where-is (suc i)))
+          ∙ sym (ap f e ∙ f-over i)
+
+  module _ (free : overCount t < h .v) (ge : h .d ≤ c) (cut : Cut (λ (j : ℕ). getD t (overAt h j) 0) (overCount t) k c) (none : (j : ℕ) → j < overCount t → getD t (overAt h j) 0 ≢ c) where
+    pub entry-added : Worded h t (added h t c w k) c w
+    entry-added =
+        let t′ = added h t c w k in
+        let n = added-over in
+        record {
+          wrote =
+              record {
+                len = added-length;
+                header = λ i l d. added-low i d (omega arith);
+                more = omega arith;
+                fits = omega arith;
+                spare = λ i a b. added-high i (omega arith);
+                put =
+                    puts.added (h .d + k)
+                    (record {
+                      cut = cut-entries h t c k ge cut none;
+                      none = none-entries h t c k ge cut none;
+                      size = let e : h .d + overCount t′ ≡ suc (h .d + overCount t) = omega arith in e;
+                      keys =
+                          column (chunkAt h t) (chunkAt h t′) (λ (j : ℕ). overAt h j) 0 c (omega arith) (λ j. omega arith) (chunk-over h t) (chunk-over h t′)
+                          (λ j l. chunk-direct h t′ j l ∙ sym (chunk-direct h t j l)) added-chunk;
+                      words =
+                          column (wordAt h t) (wordAt h t′) (λ (j : ℕ). overAt h j + 1) 1 w (omega arith) (λ j. omega arith) (word-over h t) (word-over h t′)
+                          (λ j l. word-direct h t′ j l ∙ added-low (directAt j) (omega arith) (omega arith) ∙ sym (word-direct h t j l)) added-word;
+                      prefixes =
+                          column (prefixAt h t) (prefixAt h t′) (λ (j : ℕ). overAt h j + 2) 2 0 (omega arith) (λ j. omega arith) (prefix-over h t) (prefix-over h t′)
+                          (λ j l. prefix-direct h t′ j l ∙ added-low (directAt j + 1) (omega arith) (omega arith) ∙ sym (prefix-direct h t j l)) added-prefix;
+                    });
+              };
+          owners = λ i l. added-high i (omega arith);
+        }
+
+-- ---- all three
+
+module _ (h : Header) (t : List ℕ) (o : Ordered h t) (room : tableSize h ≤ length t) (fits : overCount t ≤ h .v) (c w : ℕ)
+    (free : ((e : ℕ) → e < entries h t → chunkAt h t e ≢ c) → overCount t < h .v) where
+  over-put : (k : ℕ) → h .d ≤ c → Cut (λ (j : ℕ). getD t (overAt h j) 0) (overCount t) k c → Worded h t (overPut h t c w k) c w
+  over-put k ge cut = go (ltb k (overCount t)) refl (eqb (getD t (overAt h k) 0) c) refl
+    where
+      new : ((j : ℕ) → j < overCount t → getD t (overAt h j) 0 ≢ c) → Worded h t (addedIf h t c w k) c w
+      new none =
+          let f = free (none-entries h t c k ge cut none) in
+          let l : overAt h (overCount t + 1) ≤ length t = omega arith in
+          subst (λ (b : Bool). Worded h t (cond b (added h t c w k) t) c w) (sym (le-leb (overAt h (overCount t + 1)) (length t) l))
+          (entry-added h t c w k (cut .fits) l f ge cut none)
+
+      go : (a : Bool) → ltb k (overCount t) ≡ a → (b : Bool) → eqb (getD t (overAt h k) 0) c ≡ b → Worded h t (cond (a && b) (set t (overAt h k + 1) w) (addedIf h t c w k)) c w
+      go true p true q =
+          let l = ltb-true k (overCount t) p in
+          subst (λ (i : ℕ). Worded h t (set t (overAt h k + 1) w) i w) (chunk-over h t k ∙ eqb-true (getD t (overAt h k) 0) c q)
+          (word-set h t room fits (h .d + k) (over k refl) (omega arith) w)
+      go true p false q = new (cut-missed (λ (j : ℕ). getD t (overAt h j) 0) (overCount t) k c (over-rising h t o) cut (λ l. eqb-false (getD t (overAt h k) 0) c q))
+      go false p b q = new (cut-missed (λ (j : ℕ). getD t (overAt h j) 0) (overCount t) k c (over-rising h t o) cut (λ l. absurd (let m = ltb-false k (overCount t) p in omega arith)))
+
+  pub put-word : Worded h t (putWord h t c w) c w
+  unfolding putWord
+  put-word = go (ltb c (h .d)) refl
+    where
+      go : (b : Bool) → ltb c (h .d) ≡ b → Worded h t (cond b (set t (directAt c) w) (overPut h t c w (overPlace t (16 + 2 * h .d) (overCount t) c))) c w
+      go true p =
+          let l = ltb-true c (h .d) p in
+          subst (λ (i : ℕ). Worded h t (set t (directAt c) w) i w) (chunk-direct h t c l) (word-set h t room fits c (direct l) (omega arith) w)
+      go false p =
+          over-put (overPlace t (16 + 2 * h .d) (overCount t) c) (ltb-false c (h .d) p)
+          (lower-first (λ (j : ℕ). getD t (overAt h j) 0) (overCount t) c (over-rising h t o))

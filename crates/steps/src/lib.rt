@@ -1,0 +1,2 @@
+// Writes to the table, which every writing call is made of.
+pub mod write;
