@@ -15,7 +15,7 @@ use Rattle.sums.specs.Rules.{Decides}
 use Rattle.sparse.specs.Row.{rowOf, member}
 use Rattle.sparse.proofs.Rows.{same-test, member-of}
 use Rattle.dense.specs.Bits.{bit, isSet, withBit, withRow}
-use Rattle.dense.proofs.Bits.{bit-zeros, length-with, bit-with-same, bit-with-other, length-row, row-decides, set-one, one-set, clear-zero, zero-clear}
+use Rattle.dense.proofs.Bits.{bit-zeros, length-with, bit-with-same, bit-with-other, length-row, row-decides, one-isSet}
 use Rattle.layout.specs.Sizes.{InRange, top, wide}
 use Rattle.layout.specs.Follows.{AllZero, Listed}
 use Rattle.layout.specs.declared.head.Header.{Header}
@@ -39,7 +39,7 @@ pub set-with : (ws : List ℕ) (o i : ℕ) → o < 64 * length ws → isSet (wit
 set-with ws o i l = go (eqb o i) refl
   where
     go : (b : Bool) → eqb o i ≡ b → isSet (withBit ws o) i ≡ (isSet ws i || b)
-    go true e = one-set (withBit ws o) i (ap (bit (withBit ws o)) (sym (eqb-true o i e)) ∙ bit-with-same ws o l) ∙ sym (or-true (isSet ws i))
+    go true e = one-isSet (withBit ws o) i (ap (bit (withBit ws o)) (sym (eqb-true o i e)) ∙ bit-with-same ws o l) ∙ sym (or-true (isSet ws i))
     go false e = set-same ws (withBit ws o) i i (bit-with-other ws o i (λ q. eqb-false o i e (sym q))) ∙ sym (or-false (isSet ws i))
 
 -- ---- a free page
