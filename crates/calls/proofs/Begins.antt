@@ -17,12 +17,12 @@ use Rattle.layout.specs.Places.{rowPart, rowOwner}
 use Rattle.layout.specs.Meaning.{offsets, Kind, absent, sparse, kinds}
 use Rattle.layout.specs.Follows.{AllZero, Listed, Follows}
 use Rattle.layout.specs.declared.place.Place.{Place}
-use Rattle.layout.specs.declared.place.Place.the-variants.{Absent}
+use Rattle.layout.specs.declared.place.Place.the-variants.{Absent, Sparse}
 use Rattle.layout_laws.proofs.Sizes.{row-length}
 use Rattle.steps.specs.Steps.{rowed}
 use Rattle.steps.specs.Effects.{EntryFor, RowFor, Becomes}
 use Rattle.steps.proofs.Rowed.{rowed-becomes}
-use Rattle.layout.specs.declared.answer.Truth.the-variants.{Is, Refused}
+use Rattle.layout.specs.declared.answer.Truth.the-variants.{Is}
 use Rattle.calls.specs.Insert.{freeRow, planBegin}
 use Rattle.calls.specs.Promise.{stateOf, overflows, sparses, denses, verdict, chunkSize, grown, newAnswer}
 use Rattle.calls.specs.declared.plan.Plan.the-variants.{Refuse, Begin}
@@ -74,7 +74,7 @@ module _ {x : Mem} {n : ℕ} (i : Into x n) (e : placed x n ≡ Absent) where
     first = first-place (head x) x (freeRow x) zeros (offset x n)
 
     begun : (k : ℕ) → belowOf (rowOf row) 0 (offset x n) ≡ k → EntryFor (head x) (x .table) (chunk x n)
-        → Becomes x (rowed (head x) x (chunk x n) (freeRow x) 1 (insertedAt row 0 k (offset x n))) (chunk x n) sparse (member (rowOf (insertedAt row 0 k (offset x n))) 1)
+        → Becomes x (rowed (head x) x (chunk x n) (freeRow x) 1 (insertedAt row 0 k (offset x n))) (chunk x n) (Sparse (freeRow x) 1) (member (rowOf (insertedAt row 0 k (offset x n))) 1)
     begun k q en =
         rowed-becomes x (chunk x n) (freeRow x) 1 (insertedAt row 0 k (offset x n))
         (record {
@@ -96,7 +96,7 @@ module _ {x : Mem} {n : ℕ} (i : Into x n) (e : placed x n ≡ Absent) where
         let p = denses-fit w in
         let m = one-more in
         let g = same-pages in
-        grows n sparse (member (rowOf (insertedAt row 0 0 (offset x n))) 1) (begun 0 first en)
+        grows n (Sparse (freeRow x) 1) (member (rowOf (insertedAt row 0 0 (offset x n))) 1) (begun 0 first en)
         (λ j l.
         ap (λ (k : ℕ). member (rowOf (insertedAt row 0 k (offset x n))) 1 j) (sym first)
         ∙ member-entered (head x) row 0 (offset x n) listed long room j

@@ -1,29 +1,27 @@
 -- Counts of members and of chunks on memory that follows the layout: those of the plain set and of the map, and never a refusal. Assumes nothing.
 use mathlib.Core.Path.{_≡_, refl, sym, ap, ap₂, _∙_}
-use mathlib.Core.List.{List}
-use mathlib.Core.Bool.{Bool, true, false, cond, not, _&&_}
-use Prim.Native.Nat.{ℕ, _+_, _*_, _-_, _^_, _≤_, _<_}
+use mathlib.Core.Bool.{Bool, true, cond, not, _&&_}
+use Prim.Native.Nat.{ℕ, _+_, _*_, _<_}
 use native.Mathlib.Omega.{arith}
-use lib.ListN.{length, getD, take, drop}
-use lib.Dec.{leb, eqb}
+use lib.ListN.{length, getD}
+use lib.Dec.{eqb}
 use borrow.Author.Tests.{le-leb}
 use Rattle.sums.specs.Sums.{sumTo}
 use Rattle.sums.specs.Ids.{count, total}
-use Rattle.sums.specs.Rules.{allTo, Decides}
+use Rattle.sums.specs.Rules.{allTo}
 use Rattle.sums.proofs.Sums.{sum-ext, sum-none, sum-part}
 use Rattle.sums.proofs.Rules.{all-of, eqb-of, same-of, same-test}
 use Rattle.dense.specs.Bits.{bitsTo}
 use Rattle.layout.specs.Mem.{Mem}
 use Rattle.layout.specs.Sizes.{InRange, top, wide, head, overCount}
 use Rattle.layout.specs.Places.{pagePart}
-use Rattle.layout.specs.Entries.{entries, chunkAt, wordAt, placeAt}
+use Rattle.layout.specs.Entries.{chunkAt, placeAt}
 use Rattle.layout.specs.Short.{spotOf}
 use Rattle.layout.specs.Meaning.{holds, chunks}
 use Rattle.layout.specs.Follows.{sizeOf, membersAt, Follows}
 use Rattle.layout.specs.declared.head.Header.{Header}
 use Rattle.layout.specs.declared.answer.Truth.the-variants as truth
 use Rattle.layout.specs.declared.answer.Amount.the-variants as amount
-use Rattle.layout.specs.declared.find.Spot.{Spot}
 use Rattle.layout.specs.declared.place.Place.{Place}
 use Rattle.layout.specs.declared.place.Place.the-variants.{Absent, Sparse, Dense}
 use Rattle.layout_laws.specs.Chunks
@@ -32,7 +30,7 @@ use Rattle.layout_laws.proofs.Sizes.{wide-top}
 use Rattle.layout_laws.proofs.Short.{spot-inside}
 use Rattle.layout_laws.proofs.Members.{count-total}
 use Rattle.layout_laws.proofs.ChunkCounts.{chunks-entries}
-use Rattle.calls.specs.Reading.{shiftOk, spotBy}
+use Rattle.calls.specs.Reading.{spotBy}
 use Rattle.calls.specs.Counts.{entriesOk, entriesOf, wordBy, isGood, sizeIn, goodAt, sizeAt, usedAt, partsOk, lenBy, isEmptyBy, hasAnyBy, chunksBy}
 use Rattle.calls.proofs.Readings.{shift-ok}
 

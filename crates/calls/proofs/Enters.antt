@@ -24,7 +24,7 @@ use Rattle.steps.specs.Steps.{rowed}
 use Rattle.steps.specs.Effects.{RowFor, Becomes}
 use Rattle.steps.proofs.Words.{put-word}
 use Rattle.steps.proofs.Rowed.{rowed-becomes}
-use Rattle.layout.specs.declared.answer.Truth.the-variants.{Is, Refused}
+use Rattle.layout.specs.declared.answer.Truth.the-variants.{Is}
 use Rattle.calls.specs.Insert.{actBy}
 use Rattle.calls.specs.Promise.{stateOf, newAnswer, Inserts}
 use Rattle.calls.specs.declared.plan.Plan.the-variants.{Enter}
@@ -50,7 +50,7 @@ module _ {x : Mem} {n : ℕ} (i : Into x n) (r l : ℕ) (e : placed x n ≡ Spar
   abbrev word : ℕ
   word = wordOf (head x) (x .table) (chunk x n)
 
-  fuller : Becomes x (rowed (head x) x (chunk x n) r (suc l) row′) (chunk x n) sparse (member (rowOf row′) (suc l))
+  fuller : Becomes x (rowed (head x) x (chunk x n) r (suc l) row′) (chunk x n) (Sparse r (suc l)) (member (rowOf row′) (suc l))
   fuller =
       rowed-becomes x (chunk x n) r (suc l) row′
       (record {
@@ -83,7 +83,7 @@ module _ {x : Mem} {n : ℕ} (i : Into x n) (r l : ℕ) (e : placed x n ≡ Spar
   pub enter-good : Good x n (Enter (r * head x .m) (head x .m) l place word)
   enter-good =
       subst (Inserts x (pos n) (newAnswer (stateOf x) (pos n)) (Is true)) entered-is
-      (grows n sparse (member (rowOf row′) (suc l)) fuller
+      (grows n (Sparse r (suc l)) (member (rowOf row′) (suc l)) fuller
       (λ j m. member-entered (head x) row l (offset x n) (own-listed i r l e) (own-long i r l e) room j ∙ ap (λ (p : Place). offsets (head x) x p j || eqb (offset x n) j) (sym e))
       (newAnswer (stateOf x) (pos n))
       (same-room i sparse (kind-of i (Sparse r l) e) (own-grown i r l e true (lt-ltb l (head x .m) room)) (holds-of i (Sparse r l) e ∙ new))

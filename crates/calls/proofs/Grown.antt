@@ -1,21 +1,19 @@
 -- A chunk with one member more: from what a step does to memory, to what document 01 says of an insert. Assumes nothing.
-use mathlib.Core.Path.{_≡_, refl, sym, ap, ap₂, subst, _∙_}
+use mathlib.Core.Path.{_≡_, refl, sym, ap, ap₂, _∙_}
 use mathlib.Core.Logic.{_≢_}
-use mathlib.Core.List.{List}
-use mathlib.Core.Bool.{Bool, true, false, cond, _||_, _&&_}
-use Prim.Native.Nat.{ℕ, _+_, _-_, _*_, _/_, _%_, _^_, _≤_, _<_}
+use mathlib.Core.Bool.{Bool, true, false, cond, _||_}
+use Prim.Native.Nat.{ℕ, _+_, _*_, _/_, _%_, _<_}
 use native.Mathlib.Nat.{mod-lt, div-add-mod'}
-use native.Mathlib.Omega.{arith}
 use lib.IntN.{ℤ, pos, negsuc}
 use lib.Pow.{pow-pos}
 use lib.Dec.{eqb}
 use borrow.Author.Tests.{eqb-true, eqb-false, eq-eqb, ne-eqb}
-use Rattle.sums.specs.Ids.{Ids, count}
+use Rattle.sums.specs.Ids.{Ids}
 use Rattle.sums.proofs.Counts.{count-ext}
 use Rattle.layout.specs.Mem.{Mem}
-use Rattle.layout.specs.Sizes.{top, head, modeAt}
+use Rattle.layout.specs.Sizes.{top, head}
 use Rattle.layout.specs.Entries.{placeOf}
-use Rattle.layout.specs.Meaning.{offsets, holds, Kind, kinds, ranked}
+use Rattle.layout.specs.Meaning.{offsets, holds, Kind, kindOf, kinds}
 use Rattle.layout.specs.Follows.{sizeOf, Follows}
 use Rattle.layout.specs.declared.place.Place.{Place}
 use Rattle.layout.specs.declared.answer.Truth.{Truth}
@@ -23,7 +21,7 @@ use Rattle.layout.specs.declared.answer.Truth.the-variants.{Is, Refused}
 use Rattle.layout_laws.specs.Chunks
 use Rattle.layout_laws.proofs.Members.{holds-at, size-is}
 use Rattle.steps.specs.Effects.{Becomes}
-use Rattle.calls.specs.Promise.{stateOf, chunkSize, grown, grownMap, mapAfter, verdict, newAnswer, Inserts}
+use Rattle.calls.specs.Promise.{stateOf, chunkSize, grown, grownMap, mapAfter, Inserts}
 use Rattle.calls.proofs.Refusals.{is-refused}
 
 -- ---- the map with a new member
@@ -102,7 +100,7 @@ same-chunk t i n e = go (eqb i n) refl
     go true q = eq-eqb (n % t) (i % t) (ap (λ (k : ℕ). k % t) (sym (eqb-true i n q)))
     go false q = ne-eqb (n % t) (i % t) (λ r. eqb-false i n q (sym (div-add-mod' i t) ∙ ap₂ (λ (a b : ℕ). a * t + b) e (sym r) ∙ div-add-mod' n t))
 
-module _ {x y : Mem} (n : ℕ) (k : Kind) (os : Ids) (b : Becomes x y (n / top (head x)) k os)
+module _ {x y : Mem} (n : ℕ) (p : Place) (os : Ids) (b : Becomes x y (n / top (head x)) p os)
     (new : (o : ℕ) → o < top (head x) → os o ≡ (offsets (head x) x (placeOf (head x) (x .table) (n / top (head x))) o || eqb (n % top (head x)) o)) where
   members-new : (i : ℕ) → holds y i ≡ (holds x i || eqb i n)
   unfolding holds
@@ -119,7 +117,7 @@ module _ {x y : Mem} (n : ℕ) (k : Kind) (os : Ids) (b : Becomes x y (n / top (
           or-none (holds x i)
           ∙ ap (λ (a : Bool). holds x i || a) (sym (ne-eqb i n (λ e. eqb-false (i / top (head x)) (n / top (head x)) q (ap (λ (j : ℕ). j / top (head x)) e))))
 
-  pub grows : (wanted : Truth) → wanted ≡ Is true → k ≡ grown (kinds x (n / top (head x))) (chunkSize (stateOf x) (n / top (head x))) (head x .m) → Inserts x (pos n) wanted (Is true) y
+  pub grows : (wanted : Truth) → wanted ≡ Is true → kindOf p ≡ grown (kinds x (n / top (head x))) (chunkSize (stateOf x) (n / top (head x))) (head x .m) → Inserts x (pos n) wanted (Is true) y
   unfolding grownMap
   grows wanted e g = record {
     answer = sym e;

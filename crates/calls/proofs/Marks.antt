@@ -26,7 +26,7 @@ use Rattle.steps.specs.Steps.{paged}
 use Rattle.steps.specs.Effects.{PageFor, Becomes}
 use Rattle.steps.proofs.Paged.{paged-becomes}
 use Rattle.layout.specs.declared.answer.Truth.{Truth}
-use Rattle.layout.specs.declared.answer.Truth.the-variants.{Is, Refused}
+use Rattle.layout.specs.declared.answer.Truth.the-variants.{Is}
 use Rattle.calls.specs.Insert.{actBy}
 use Rattle.calls.specs.Promise.{stateOf, chunkSize, grown, newAnswer, Inserts}
 use Rattle.calls.specs.declared.plan.Plan.the-variants.{Known, Mark}
@@ -59,7 +59,7 @@ module _ {x : Mem} {n : ℕ} (i : Into x n) (q : ℕ) (e : placed x n ≡ Dense 
   unfolding paged
   marked-is = ap (mem (putPart (x .pages) (q * wide (head x)) (wide (head x)) (withBit page (offset x n))) (x .rows) (x .blocks)) table-same
 
-  marked : Becomes x (paged (head x) x (chunk x n) (Dense q) q (withBit page (offset x n))) (chunk x n) dense (isSet (withBit page (offset x n)))
+  marked : Becomes x (paged (head x) x (chunk x n) (Dense q) q (withBit page (offset x n))) (chunk x n) (Dense q) (isSet (withBit page (offset x n)))
   marked =
       paged-becomes x (chunk x n) (Dense q) q (withBit page (offset x n))
       (record { set = open-at i; old-is = sym e; there = owns .there; long = length-with page (offset x n) ∙ page-long; came = PageFor.own-page refl })
@@ -70,7 +70,7 @@ module _ {x : Mem} {n : ℕ} (i : Into x n) (q : ℕ) (e : placed x n ≡ Dense 
       let l = page-long in
       let o = offset-in i in
       subst (Inserts x (pos n) wanted (Is true)) marked-is
-      (grows n dense (isSet (withBit page (offset x n))) marked
+      (grows n (Dense q) (isSet (withBit page (offset x n))) marked
       (λ j m. set-with page (offset x n) j (omega arith) ∙ ap (λ (p : Place). offsets (head x) x p j || eqb (offset x n) j) (sym e))
       wanted g
       (sym (ap (λ (k : Kind). grown k (chunkSize (stateOf x) (chunk x n)) (head x .m)) (kind-of i (Dense q) e))))

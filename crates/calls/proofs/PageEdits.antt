@@ -1,9 +1,9 @@
 -- A page that gets a row's members and a new offset: its bits, for every offset of a chunk. Assumes nothing.
-use mathlib.Core.Path.{_≡_, refl, sym, ap, ap₂, _∙_}
+use mathlib.Core.Path.{_≡_, refl, sym, ap, _∙_}
 use mathlib.Core.Logic.{_⊎_, inl, inr}
 use mathlib.Core.List.{List}
 use mathlib.Core.Bool.{Bool, true, false, _||_}
-use Prim.Native.Nat.{ℕ, _+_, _-_, _*_, _/_, _%_, _^_, _≤_, _<_}
+use Prim.Native.Nat.{ℕ, _+_, _*_, _%_, _≤_, _<_}
 use native.Mathlib.Nat.{mod-eq-of-lt}
 use native.Mathlib.Omega.{arith}
 use lib.ListN.{length, getD, take, drop, replicate, length-replicate, getD-replicate}
@@ -11,11 +11,11 @@ use lib.Pow.{pow-pos}
 use lib.Seq.{ext-getD}
 use lib.Dec.{eqb}
 use borrow.Author.Tests.{eqb-true, eqb-false, eq-eqb, ne-eqb}
-use Rattle.sums.specs.Rules.{Decides}
 use Rattle.sparse.specs.Row.{rowOf, member}
 use Rattle.sparse.proofs.Rows.{same-test, member-of}
 use Rattle.dense.specs.Bits.{bit, isSet, withBit, withRow}
-use Rattle.dense.proofs.Bits.{bit-zeros, length-with, bit-with-same, bit-with-other, length-row, row-decides, one-isSet}
+use Rattle.dense.proofs.Bits.{bit-zeros, length-with, length-row, row-decides}
+use Rattle.dense.proofs.Sets.{isSet-with}
 use Rattle.layout.specs.Sizes.{InRange, top, wide}
 use Rattle.layout.specs.Follows.{AllZero, Listed}
 use Rattle.layout.specs.declared.head.Header.{Header}
@@ -31,16 +31,12 @@ or-true : (b : Bool) → (b || true) ≡ true
 or-true true = refl
 or-true false = refl
 
-set-same : (ws vs : List ℕ) (i j : ℕ) → bit vs i ≡ bit ws j → isSet vs i ≡ isSet ws j
-unfolding isSet
-set-same ws vs i j e = ap (λ (b : ℕ). eqb b 1) e
-
 pub set-with : (ws : List ℕ) (o i : ℕ) → o < 64 * length ws → isSet (withBit ws o) i ≡ (isSet ws i || eqb o i)
-set-with ws o i l = go (eqb o i) refl
+set-with ws o i l = isSet-with ws o i l ∙ go (eqb o i) refl
   where
-    go : (b : Bool) → eqb o i ≡ b → isSet (withBit ws o) i ≡ (isSet ws i || b)
-    go true e = one-isSet (withBit ws o) i (ap (bit (withBit ws o)) (sym (eqb-true o i e)) ∙ bit-with-same ws o l) ∙ sym (or-true (isSet ws i))
-    go false e = set-same ws (withBit ws o) i i (bit-with-other ws o i (λ q. eqb-false o i e (sym q))) ∙ sym (or-false (isSet ws i))
+    go : (b : Bool) → eqb o i ≡ b → (eqb i o || isSet ws i) ≡ (isSet ws i || b)
+    go true e = ap (λ (t : Bool). t || isSet ws i) (eq-eqb i o (sym (eqb-true o i e))) ∙ sym (or-true (isSet ws i))
+    go false e = ap (λ (t : Bool). t || isSet ws i) (ne-eqb i o (λ q. eqb-false o i e (sym q))) ∙ sym (or-false (isSet ws i))
 
 -- ---- a free page
 

@@ -3,36 +3,33 @@ use mathlib.Core.Path.{_≡_, refl, sym, ap, ap₂, _∙_}
 use mathlib.Core.Logic.{_≢_}
 use mathlib.Core.List.{List}
 use mathlib.Core.Bool.{Bool, true, false, cond, _&&_}
-use Prim.Native.Nat.{ℕ, _+_, _-_, _*_, _/_, _%_, _≤_, _<_}
+use Prim.Native.Nat.{ℕ, _+_, _-_, _*_, _/_, _%_, _<_}
 use native.Mathlib.Omega.{arith}
 use lib.ListN.{getD, set}
 use lib.Seq.{set-getD}
 use lib.Dec.{leb, ltb, eqb}
-use borrow.Author.Tests.{ltb-true, ltb-false, eqb-true, eqb-false, lt-ltb, le-ltb, le-leb}
+use borrow.Author.Tests.{ltb-true, ltb-false, eqb-false, lt-ltb, le-leb}
 use Rattle.numbers.specs.declared.Split.{Split}
 use Rattle.numbers.specs.declared.Split.the-variants as split
 use Rattle.layout.specs.Mem.{Mem}
 use Rattle.layout.specs.Sizes.{directAt, overAt, head, modeAt, overCount}
-use Rattle.layout.specs.Places.{decoded, encoded}
+use Rattle.layout.specs.Places.{decoded}
 use Rattle.layout.specs.Entries.{wordOf, placeOf}
-use Rattle.layout.specs.Short.{overPlace, overWord, keyAt, wordIn}
+use Rattle.layout.specs.Short.{overPlace}
 use Rattle.layout.specs.Meaning.{ranked}
 use Rattle.layout.specs.Follows.{Follows}
 use Rattle.layout.specs.Tests.{headIs}
-use Rattle.layout.proofs.Tests.{HeadIs, head-of}
+use Rattle.layout.proofs.Tests.{head-of}
 use Rattle.layout.specs.declared.head.Header.{Header}
-use Rattle.layout.specs.declared.find.Spot.{Spot}
-use Rattle.layout.specs.declared.place.Place.{Place}
 use Rattle.layout.specs.declared.place.Place.the-variants.{Absent, Sparse, Dense}
 use Rattle.layout_laws.specs.Chunks
 use Rattle.layout_laws.proofs.Entries.{Ordered, word-direct, word-of-direct}
 use Rattle.layout_laws.proofs.Short.{over-word-is, word-in-is, spot-is}
 use Rattle.layout_laws.proofs.Walked.{laid-walked}
 use Rattle.steps.specs.Writes.{overPut, putWord}
-use Rattle.calls.specs.Reading.{shiftOk, spotIf}
+use Rattle.calls.specs.Reading.{shiftOk}
 use Rattle.calls.specs.Insert.{planBegin, planTurn, planSpot, planWord, planSplit, planBy, preparedSpot, preparedSplit, preparedPlan}
-use Rattle.calls.specs.declared.plan.Plan.{Plan}
-use Rattle.calls.specs.declared.plan.Plan.the-variants.{Refuse, Known, Mark, Enter, Begin, Turn}
+use Rattle.calls.specs.declared.plan.Plan.the-variants.{Refuse, Begin, Turn}
 use Rattle.calls.proofs.Readings.{shift-ok, spot-of}
 
 -- ---- a word, by what it says

@@ -19,7 +19,6 @@ use Rattle.layout.specs.declared.head.Header.{Header}
 use Rattle.layout_laws.proofs.Walked.{follows-walked}
 use Rattle.numbers.proofs.Splits as splits
 use Rattle.layout.specs.declared.answer.Truth.the-variants as truth
-use Rattle.layout.specs.declared.answer.Outcome.{Outcome}
 use Rattle.layout.specs.declared.answer.Outcome.the-variants.{Done, Refused}
 use Rattle.calls.specs.Prepare.{Work, work, densedWord, densedTo, overNeeded, pagesNeeded, prepareId, prepareBy}
 use Rattle.calls.specs.Promise.{stateOf, overflows, denses, verdict, denseMap, done, prepareAnswer, Prepares}

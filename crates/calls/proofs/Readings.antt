@@ -1,31 +1,25 @@
 -- `get` and `chunk_of` on memory that follows the layout: what the plain set says, and never a refusal. Assumes nothing.
-use mathlib.Core.Path.{_≡_, refl, sym, ap, ap₂, _∙_}
-use mathlib.Core.List.{List}
+use mathlib.Core.Path.{_≡_, refl, ap, ap₂, _∙_}
 use mathlib.Core.Bool.{Bool, true, false, cond, _&&_}
 use Prim.Native.Nat.{ℕ, _/_, _%_}
 use lib.IntN.{ℤ, pos, negsuc}
-use lib.ListN.{length, getD, take, drop}
-use lib.Dec.{leb}
+use lib.ListN.{getD}
 use borrow.Author.Tests.{le-leb}
 use Rattle.sums.specs.Ids.{has}
 use Rattle.sparse.specs.Row.{rowOf, member, belowOf}
-use Rattle.sparse.specs.Search.{searchIn, placeIf}
+use Rattle.sparse.specs.Search.{placeIf}
 use Rattle.sparse.proofs.Searches.{search-rising}
 use Rattle.layout.specs.Mem.{Mem}
 use Rattle.layout.specs.Sizes.{InRange, top, head}
 use Rattle.layout.specs.Places.{rowPart}
-use Rattle.layout.specs.Entries.{wordOf, placeOf}
+use Rattle.layout.specs.Entries.{placeOf}
 use Rattle.layout.specs.Short.{wordIn}
 use Rattle.layout.specs.Meaning.{offsets, holds}
 use Rattle.layout.specs.Follows.{RowListed, Follows}
 use Rattle.layout.specs.Tests.{Walked}
 use Rattle.layout.specs.declared.head.Header.{Header}
-use Rattle.layout.specs.declared.answer.Truth.{Truth}
 use Rattle.layout.specs.declared.answer.Truth.the-variants as truth
-use Rattle.layout.specs.declared.answer.Perhaps.{Perhaps}
 use Rattle.layout.specs.declared.answer.Perhaps.the-variants as perhaps
-use Rattle.layout.specs.declared.find.Word.{Word}
-use Rattle.layout.specs.declared.find.Spot.{Spot}
 use Rattle.layout.specs.declared.place.Place.{Place}
 use Rattle.layout.specs.declared.place.Place.the-variants.{Absent, Sparse, Dense}
 use Rattle.layout_laws.specs.Chunks

@@ -1,10 +1,9 @@
 -- A row that gets a new offset at the place that the search gives: it is still a row of the layout, with that member more. Assumes nothing.
-use mathlib.Core.Path.{_≡_, refl, sym, ap, subst, _∙_}
+use mathlib.Core.Path.{_≡_, ap, _∙_}
 use mathlib.Core.Logic.{_⊎_, inl, inr}
 use mathlib.Core.List.{List}
-use mathlib.Core.Bool.{Bool, true, false, _||_}
-use Prim.Native.Nat.{ℕ, zero, suc, _+_, _-_, _*_, _≤_, _<_}
-use native.Mathlib.Numerals.{add-one}
+use mathlib.Core.Bool.{false, _||_}
+use Prim.Native.Nat.{ℕ, zero, suc, _+_, _*_, _≤_, _<_}
 use native.Mathlib.Omega.{arith}
 use lib.ListN.{length, getD}
 use lib.Dec.{eqb}
@@ -12,7 +11,7 @@ use Rattle.sums.proofs.Sums.{Inserted}
 use Rattle.sparse.specs.Row.{rowOf, member, belowOf}
 use Rattle.sparse.specs.Search.{spotIn, placeIf}
 use Rattle.sparse.specs.Edit.{insertedAt}
-use Rattle.sparse.proofs.Rows.{member-none, below-le}
+use Rattle.sparse.proofs.Rows.{below-le}
 use Rattle.sparse.proofs.Searches.{search-rising, spot-rising}
 use Rattle.sparse.proofs.Edits.{less-or, length-inserted, inserted-beyond, inserted-at}
 use Rattle.sparse.proofs.Inserts.{member-insert, rising-insert}

@@ -30,7 +30,6 @@ use Rattle.steps.specs.Steps.{paged}
 use Rattle.steps.specs.Effects.{EntryFor, PageFor, PagedOk, Becomes}
 use Rattle.steps.proofs.Paged.{paged-becomes}
 use Rattle.layout.specs.declared.find.Word.{Word}
-use Rattle.layout.specs.declared.find.Word.the-variants as word
 use Rattle.calls.specs.Insert.{firstFree}
 use Rattle.calls.specs.Prepare.{Work, work, densed, densedWord}
 use Rattle.calls.specs.Promise.{stateOf, isDense, overflows, denses, denseMap}
@@ -175,7 +174,7 @@ module _ (x : Mem) (mode : ranked x ≡ false) (c n : ℕ) (le : n ≤ c) (far :
     abbrev z : Mem
     z = paged (head y) y n old free page
 
-    b : Becomes y z n dense (isSet page)
+    b : Becomes y z n (Dense free) (isSet page)
     b = paged-becomes y n old free page ok
 
     kept : (i : ℕ) (t : Bool) → eqb (i / top (head y)) n ≡ t → cond t (isSet page (i % top (head y))) (holds y i) ≡ holds y i

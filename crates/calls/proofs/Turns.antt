@@ -18,12 +18,12 @@ use Rattle.layout.specs.Entries.{wordOf}
 use Rattle.layout.specs.Meaning.{offsets, sparse, dense, kinds}
 use Rattle.layout.specs.Follows.{Follows}
 use Rattle.layout.specs.declared.place.Place.{Place}
-use Rattle.layout.specs.declared.place.Place.the-variants.{Sparse}
+use Rattle.layout.specs.declared.place.Place.the-variants.{Sparse, Dense}
 use Rattle.layout_laws.proofs.Sizes.{page-length}
 use Rattle.steps.specs.Steps.{paged}
 use Rattle.steps.specs.Effects.{PageFor, Becomes}
 use Rattle.steps.proofs.Paged.{paged-becomes}
-use Rattle.layout.specs.declared.answer.Truth.the-variants.{Is, Refused}
+use Rattle.layout.specs.declared.answer.Truth.the-variants.{Is}
 use Rattle.calls.specs.Insert.{freePage, planTurn}
 use Rattle.calls.specs.Promise.{stateOf, overflows, sparses, denses, verdict, newAnswer}
 use Rattle.calls.specs.declared.plan.Plan.the-variants.{Refuse, Turn}
@@ -79,7 +79,7 @@ module _ {x : Mem} {n : ℕ} (i : Into x n) (r l : ℕ) (e : placed x n ≡ Spar
     clear : (o : ℕ) → bit blank o ≡ 0
     clear = free-bits (x .pages) (freePage x) (head x .p) (wide (head x)) there (w .room .in-pages) (w .free-pages (freePage x) there owner)
 
-    opened : Becomes x (paged (head x) x (chunk x n) (Sparse r l) (freePage x) page′) (chunk x n) dense (isSet page′)
+    opened : Becomes x (paged (head x) x (chunk x n) (Sparse r l) (freePage x) page′) (chunk x n) (Dense (freePage x)) (isSet page′)
     opened =
         paged-becomes x (chunk x n) (Sparse r l) (freePage x) page′
         (record {
@@ -95,7 +95,7 @@ module _ {x : Mem} {n : ℕ} (i : Into x n) (r l : ℕ) (e : placed x n ≡ Spar
         let f = found-less (pageOwner (head x) (x .table)) (head x .p) there in
         let p = denses-is w in
         let y = page-more in
-        grows n dense (isSet page′) opened
+        grows n (Dense (freePage x)) (isSet page′) opened
         (λ j m. set-turned (head x) (w .sizes) blank row l long clear (own-listed i r l e) (offset x n) (offset-in i) j ∙ ap (λ (p : Place). offsets (head x) x p j || eqb (offset x n) j) (sym e))
         (newAnswer (stateOf x) (pos n))
         (wanted ∙ verdict-room (head x) (after x n) (Is true) over-room row-room (omega arith))

@@ -16,7 +16,7 @@ use Rattle.layout.specs.Meaning.{Kind, absent, sparse, dense, kinds, isPresent}
 use Rattle.layout.specs.Follows.{Follows}
 use Rattle.layout.specs.declared.head.Header.{Header}
 use Rattle.layout.specs.declared.answer.Truth.{Truth}
-use Rattle.layout.specs.declared.answer.Truth.the-variants.{Is, Refused}
+use Rattle.layout.specs.declared.answer.Truth.the-variants.{Refused}
 use Rattle.layout_laws.specs.Chunks.{inRow, inPage}
 use Rattle.layout_laws.proofs.ChunkCounts.{over-chunks, sparse-rows, dense-pages}
 use Rattle.calls.specs.Promise.{isSparse, isDense, overflows, sparses, denses, verdict}

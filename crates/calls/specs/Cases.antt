@@ -11,7 +11,7 @@ use Rattle.layout.specs.Entries.{placeOf}
 use Rattle.layout.specs.SetUp.{sizesOf, setUpBy}
 use Rattle.layout.specs.declared.head.Header.{Header}
 use Rattle.layout.specs.declared.place.Place.{Place}
-use Rattle.layout.specs.declared.place.Place.the-variants.{Absent, Sparse, Dense}
+use Rattle.layout.specs.declared.place.Place.the-variants.{Sparse, Dense}
 use Rattle.layout.specs.declared.answer.Outcome.{Outcome}
 use Rattle.layout.specs.declared.answer.Outcome.the-variants as outcome
 use Rattle.layout.specs.declared.answer.Truth.{Truth}

@@ -2,7 +2,7 @@
 use mathlib.Core.Path.{_≡_, refl, sym, ap, subst, _∙_}
 use mathlib.Core.Logic.{_⊎_, inl, inr, _≢_}
 use mathlib.Core.List.{List}
-use mathlib.Core.Bool.{Bool, false, cond, not}
+use mathlib.Core.Bool.{Bool, true, false, cond, not}
 use Prim.Native.Nat.{ℕ, zero, suc, _+_, _-_, _*_, _/_, _%_, _≤_, _<_}
 use native.Mathlib.Omega.{arith}
 use lib.ListN.{length, getD}
@@ -198,22 +198,27 @@ module _ (h : Header) (x y : Mem) (c w : ℕ) (L : Laid x h) (mode : ranked x �
 
 -- ---- what the set becomes
 
-module _ (x y : Mem) (c w : ℕ) (k : Kind) (os : Ids) (O : Open x c) (s : Stepped (head x) x y c w) (kind : kindOf (decoded w) ≡ k) (inside : (o : ℕ) → offsets (head x) y (decoded w) o ≡ os o) where
+module _ (x y : Mem) (c w : ℕ) (q : Place) (os : Ids) (O : Open x c) (s : Stepped (head x) x y c w) (place : decoded w ≡ q) (inside : (o : ℕ) → offsets (head x) y q o ≡ os o) where
   head-same : head y ≡ head x
   head-same = header-kept (head x) (x .table) (y .table) c w (s .wrote)
 
-  kinds-step : (i : ℕ) → kinds y i ≡ cond (eqb i c) k (kinds x i)
-  unfolding kinds
-  kinds-step i = ap (λ (h : Header). kindOf (placeOf h (y .table) i)) head-same ∙ go (same-or i c)
+  here : placeOf (head x) (y .table) c ≡ q
+  here = place-step (head x) x y c w (O .follows) (O .mode) (O .chunk) s ∙ place
+
+  places-step : (i : ℕ) → placeOf (head x) (y .table) i ≡ cond (eqb i c) q (placeOf (head x) (x .table) i)
+  places-step i = go (same-or i c)
     where
-      go : (i ≡ c) ⊎ (i ≢ c) → kindOf (placeOf (head x) (y .table) i) ≡ cond (eqb i c) k (kindOf (placeOf (head x) (x .table) i))
-      go (inl e) =
-          ap (λ (j : ℕ). kindOf (placeOf (head x) (y .table) j)) e
-          ∙ ap kindOf (place-step (head x) x y c w (O .follows) (O .mode) (O .chunk) s) ∙ kind
-          ∙ sym (ap (λ (b : Bool). cond b k (kindOf (placeOf (head x) (x .table) i))) (eq-eqb i c e))
-      go (inr d) =
-          ap kindOf (place-step-off (head x) x y c w (O .follows) (O .mode) (O .chunk) s i d)
-          ∙ sym (ap (λ (b : Bool). cond b k (kindOf (placeOf (head x) (x .table) i))) (ne-eqb i c d))
+      go : (i ≡ c) ⊎ (i ≢ c) → placeOf (head x) (y .table) i ≡ cond (eqb i c) q (placeOf (head x) (x .table) i)
+      go (inl e) = ap (placeOf (head x) (y .table)) e ∙ here ∙ sym (ap (λ (b : Bool). cond b q (placeOf (head x) (x .table) i)) (eq-eqb i c e))
+      go (inr d) = place-step-off (head x) x y c w (O .follows) (O .mode) (O .chunk) s i d ∙ sym (ap (λ (b : Bool). cond b q (placeOf (head x) (x .table) i)) (ne-eqb i c d))
+
+  kinds-step : (i : ℕ) → kinds y i ≡ cond (eqb i c) (kindOf q) (kinds x i)
+  unfolding kinds
+  kinds-step i = ap (λ (h : Header). kindOf (placeOf h (y .table) i)) head-same ∙ ap kindOf (places-step i) ∙ under (eqb i c)
+    where
+      under : (b : Bool) → kindOf (cond b q (placeOf (head x) (x .table) i)) ≡ cond b (kindOf q) (kindOf (placeOf (head x) (x .table) i))
+      under true = refl
+      under false = refl
 
   holds-step : (n : ℕ) → holds y n ≡ cond (eqb (n / top (head x)) c) (os (n % top (head x))) (holds x n)
   unfolding holds
@@ -225,29 +230,39 @@ module _ (x y : Mem) (c w : ℕ) (k : Kind) (os : Ids) (O : Open x c) (s : Stepp
       go : (n / top (head x) ≡ c) ⊎ (n / top (head x) ≢ c) → offsets (head x) y (placeOf (head x) (y .table) (n / top (head x))) (n % top (head x)) ≡ cond (eqb (n / top (head x)) c) (os (n % top (head x))) was
       go (inl e) =
           ap (λ (j : ℕ). offsets (head x) y (placeOf (head x) (y .table) j) (n % top (head x))) e
-          ∙ ap (λ (q : Place). offsets (head x) y q (n % top (head x))) (place-step (head x) x y c w (O .follows) (O .mode) (O .chunk) s)
+          ∙ ap (λ (p : Place). offsets (head x) y p (n % top (head x))) here
           ∙ inside (n % top (head x))
           ∙ sym (ap (λ (b : Bool). cond b (os (n % top (head x))) was) (eq-eqb (n / top (head x)) c e))
       go (inr d) =
           offsets-step-off (head x) x y c w (O .follows) (O .mode) (O .chunk) s (n / top (head x)) d (n % top (head x))
           ∙ sym (ap (λ (b : Bool). cond b (os (n % top (head x))) was) (ne-eqb (n / top (head x)) c d))
 
-  kind-after : kinds y c ≡ k
-  kind-after = kinds-step c ∙ ap (λ (b : Bool). cond b k (kinds x c)) (eq-eqb c c refl)
+  kind-after : kinds y c ≡ kindOf q
+  kind-after = kinds-step c ∙ ap (λ (b : Bool). cond b (kindOf q) (kinds x c)) (eq-eqb c c refl)
 
   kind-off : (i : ℕ) → i ≢ c → kinds y i ≡ kinds x i
-  kind-off i d = kinds-step i ∙ ap (λ (b : Bool). cond b k (kinds x i)) (ne-eqb i c d)
+  kind-off i d = kinds-step i ∙ ap (λ (b : Bool). cond b (kindOf q) (kinds x i)) (ne-eqb i c d)
 
-  pub becomes : Becomes x y c k os
+  pub becomes : Becomes x y c q os
   becomes =
       record {
         follows = subst (Laid y) (sym head-same) (laid-step (head x) x y c w (O .follows) (O .mode) (O .chunk) s);
         head-is = head-same;
         mode-is = mode-same (head x) x y c w (O .follows) (O .mode) (O .chunk) s;
+        places-is = places-step;
         kinds-is = kinds-step;
         holds-is = holds-step;
         counts = λ g.
             (let a = count-change (λ (i : ℕ). g i (kinds x i)) (λ (i : ℕ). g i (kinds y i)) c (lastChunk (head x)) (O .chunk) (λ j l d. ap (g j) (kind-off j d)) in
-            let b = ap (λ (q : Kind). boolByte (g c q)) kind-after in
+            let b = ap (λ (k : Kind). boolByte (g c k)) kind-after in
             omega arith);
       }
+
+-- one step after another
+pub still-open : (x y : Mem) (c i : ℕ) (q : Place) (os : Ids) → Open x c → Becomes x y c q os → i < lastChunk (head x) → Open y i
+still-open x y c i q os O B l =
+    record {
+      follows = B .follows;
+      mode = ap (λ (m : ℕ). eqb m 1) (B .mode-is) ∙ O .mode;
+      chunk = subst (λ (h : Header). i < lastChunk h) (sym (B .head-is)) l;
+    }

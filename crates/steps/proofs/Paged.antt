@@ -5,7 +5,7 @@ use mathlib.Core.List.{List}
 use mathlib.Core.Bool.{not}
 use Prim.Native.Nat.{ℕ, _+_, _-_, _*_, _≤_, _<_}
 use native.Mathlib.Omega.{arith}
-use lib.ListN.{length, set, replicate, length-replicate}
+use lib.ListN.{length, set, length-replicate}
 use lib.Seq.{getD-set-same, getD-set-other}
 use lib.Dec.{eqb}
 use mir.Val.{boolByte}
@@ -15,7 +15,7 @@ use Rattle.layout.specs.Mem.{Mem}
 use Rattle.layout.specs.Sizes.{wide, rowOwnersAt, pageOwnersAt, head, overCount}
 use Rattle.layout.specs.Places.{decoded, encoded, isSparse, isDense, rowPart, rowOwner, pageOwner}
 use Rattle.layout.specs.Entries.{entries, chunkAt, placeOf}
-use Rattle.layout.specs.Meaning.{dense, kindOf, offsets}
+use Rattle.layout.specs.Meaning.{offsets}
 use Rattle.layout.specs.Follows.{AllZero, OwnsRow, Owned, RowListed, Laid}
 use Rattle.layout.specs.declared.head.Header.{Header}
 use Rattle.layout.specs.declared.place.Place.{Place}
@@ -25,7 +25,7 @@ use Rattle.layout_laws.proofs.Entries.{laid-ordered}
 use Rattle.layout_laws.proofs.Owners.{page-of}
 use Rattle.layout_laws.proofs.Short.{owned-of}
 use Rattle.layout_laws.proofs.Walked.{laid-walked}
-use Rattle.steps.specs.Writes.{putPart, putWord, putRow, putRowOwner}
+use Rattle.steps.specs.Writes.{putPart, putWord, putRowOwner}
 use Rattle.steps.specs.Steps.{leftOwner, leftRow, paged}
 use Rattle.steps.specs.Effects.{PageFor, new-page, own-page, PagedOk, Becomes}
 use Rattle.steps.proofs.Parts.{slot-in, length-put, slot-put, slot-kept, zero-kept, zero-put}
@@ -48,7 +48,7 @@ module _ (h : Header) (x : Mem) (L : Laid x h) (c w : ℕ) (u : List ℕ) (worde
 
   left-rows-long : (q : Place) → Owned h (x .table) c q → length (leftRow h (x .rows) q) ≡ length (x .rows)
   left-rows-long Absent o = refl
-  left-rows-long (Sparse r l) o = length-put (x .rows) (r * h .m) (h .m) (replicate (h .m) 0) (length-replicate (h .m) 0) (room-for r (o .there))
+  left-rows-long (Sparse r l) o = length-put (x .rows) (r * h .m) (h .m) _ (length-replicate (h .m) _) (room-for r (o .there))
   left-rows-long (Dense p) o = refl
 
   left-page : (q : Place) → Owned h (x .table) c q → (p : ℕ) → pageOwner h (leftOwner h u q) p ≡ pageOwner h (x .table) p
@@ -75,16 +75,16 @@ module _ (h : Header) (x : Mem) (L : Laid x h) (c w : ℕ) (u : List ℕ) (worde
       let a = o .owner in
       let b = e .owner in
       let n : j ≢ r = λ q. d (let z = ap (rowOwner h (x .table)) q in omega arith) in
-      (left-off r j n, slot-kept (x .rows) (h .m) r (replicate (h .m) 0) (length-replicate (h .m) 0) (room-for r (o .there)) j n)
+      (left-off r j n, slot-kept (x .rows) (h .m) r _ (length-replicate (h .m) _) (room-for r (o .there)) j n)
   left-other (Dense p) o i j k d e = (row-same j, refl)
 
   left-free : (q : Place) → Owned h (x .table) c q → (j : ℕ) → j < h .r → rowOwner h (leftOwner h u q) j ≡ 0 → AllZero (leftRow h (x .rows) q) (j * h .m) (h .m)
   left-free Absent o j m z = L .free-rows j m (sym (row-same j) ∙ z)
   left-free (Sparse r l) o j m z = go (same-or j r)
     where
-      go : (j ≡ r) ⊎ (j ≢ r) → AllZero (putRow h (x .rows) r (replicate (h .m) 0)) (j * h .m) (h .m)
-      go (inl e) = subst (λ (i : ℕ). AllZero (putRow h (x .rows) r (replicate (h .m) 0)) (i * h .m) (h .m)) (sym e) (zero-put (x .rows) (h .m) r (room-for r (o .there)))
-      go (inr d) = zero-kept (x .rows) (h .m) r (replicate (h .m) 0) (length-replicate (h .m) 0) (room-for r (o .there)) j d (L .free-rows j m (sym (left-off r j d) ∙ z))
+      go : (j ≡ r) ⊎ (j ≢ r) → AllZero (leftRow h (x .rows) (Sparse r l)) (j * h .m) (h .m)
+      go (inl e) = subst (λ (i : ℕ). AllZero (leftRow h (x .rows) (Sparse r l)) (i * h .m) (h .m)) (sym e) (zero-put (x .rows) (h .m) r (room-for r (o .there)))
+      go (inr d) = zero-kept (x .rows) (h .m) r _ (length-replicate (h .m) _) (room-for r (o .there)) j d (L .free-rows j m (sym (left-off r j d) ∙ z))
   left-free (Dense p) o j m z = L .free-rows j m (sym (row-same j) ∙ z)
 
   rows-alike : (t : List ℕ) → ((j : ℕ) → j < h .r → rowOwner h t j ≡ rowOwner h (x .table) j) → rowsUsed h t ≡ rowsUsed h (x .table)
@@ -220,17 +220,15 @@ module _ (h : Header) (x : Mem) (L : Laid x h) (c : ℕ) (old : Place) (p : ℕ)
         pages-used = pages-count;
       }
 
-  pub page-offsets : (o : ℕ) → offsets h (paged h x c old p page) (decoded (encoded (Dense p))) o ≡ isSet page o
-  unfolding w paged
-  page-offsets o =
-      ap (λ (q : Place). offsets h (paged h x c old p page) q o) word-is
-      ∙ ap (λ (u : List ℕ). isSet u o) (slot-put (x .pages) (wide h) p page long room)
+  page-offsets : (o : ℕ) → offsets h (paged h x c old p page) (Dense p) o ≡ isSet page o
+  unfolding paged
+  page-offsets o = ap (λ (u : List ℕ). isSet u o) (slot-put (x .pages) (wide h) p page long room)
 
 -- the layout is kept, and chunk c is dense with the bits of the list
-pub paged-becomes : (x : Mem) (c : ℕ) (old : Place) (p : ℕ) (page : List ℕ) → PagedOk x c old p page → Becomes x (paged (head x) x c old p page) c dense (isSet page)
+pub paged-becomes : (x : Mem) (c : ℕ) (old : Place) (p : ℕ) (page : List ℕ) → PagedOk x c old p page → Becomes x (paged (head x) x c old p page) c (Dense p) (isSet page)
 paged-becomes x c old p page k =
     let L = k .set .follows in
-    becomes x (paged (head x) x c old p page) c (encoded (Dense p)) dense (isSet page) (k .set)
+    becomes x (paged (head x) x c old p page) c (encoded (Dense p)) (Dense p) (isSet page) (k .set)
     (page-stepped (head x) x L c old p page (k .old-is) (k .there) (k .long) (k .came))
-    (ap kindOf (decoded-encoded-dense p))
+    (decoded-encoded-dense p)
     (page-offsets (head x) x L c old p page (k .old-is) (k .there) (k .long) (k .came))

@@ -15,7 +15,7 @@ use Rattle.layout.specs.Mem.{Mem}
 use Rattle.layout.specs.Sizes.{wide, rowOwnersAt, pageOwnersAt, head, overCount}
 use Rattle.layout.specs.Places.{decoded, encoded, isSparse, isDense, rowOwner, pageOwner}
 use Rattle.layout.specs.Entries.{entries, chunkAt, placeOf}
-use Rattle.layout.specs.Meaning.{sparse, kindOf, offsets}
+use Rattle.layout.specs.Meaning.{offsets}
 use Rattle.layout.specs.Follows.{AllZero, Owned, Listed, RowListed, Laid}
 use Rattle.layout.specs.declared.head.Header.{Header}
 use Rattle.layout.specs.declared.place.Place.{Place}
@@ -157,21 +157,19 @@ module _ (h : Header) (x : Mem) (L : Laid x h) (c r l : ℕ) (row : List ℕ) (t
         pages-used = pages-count;
       }
 
-  pub row-offsets : (o : ℕ) → offsets h (rowed h x c r l row) (decoded (encoded (Sparse r l))) o ≡ member (rowOf row) l o
-  unfolding w rowed
-  row-offsets o =
-      ap (λ (q : Place). offsets h (rowed h x c r l row) q o) word-is
-      ∙ ap (λ (u : List ℕ). member (rowOf u) l o) (slot-put (x .rows) (h .m) r row long room)
+  row-offsets : (o : ℕ) → offsets h (rowed h x c r l row) (Sparse r l) o ≡ member (rowOf row) l o
+  unfolding rowed
+  row-offsets o = ap (λ (u : List ℕ). member (rowOf u) l o) (slot-put (x .rows) (h .m) r row long room)
 
-  pub row-kind : kindOf (decoded (encoded (Sparse r l))) ≡ sparse
+  row-word : decoded (encoded (Sparse r l)) ≡ Sparse r l
   unfolding w
-  row-kind = ap kindOf word-is
+  row-word = word-is
 
 -- the layout is kept, and chunk c is sparse with the members of the list
-pub rowed-becomes : (x : Mem) (c r l : ℕ) (row : List ℕ) → RowedOk x c r l row → Becomes x (rowed (head x) x c r l row) c sparse (member (rowOf row) l)
+pub rowed-becomes : (x : Mem) (c r l : ℕ) (row : List ℕ) → RowedOk x c r l row → Becomes x (rowed (head x) x c r l row) c (Sparse r l) (member (rowOf row) l)
 rowed-becomes x c r l row k =
     let L = k .set .follows in
-    becomes x (rowed (head x) x c r l row) c (encoded (Sparse r l)) sparse (member (rowOf row) l) (k .set)
+    becomes x (rowed (head x) x c r l row) c (encoded (Sparse r l)) (Sparse r l) (member (rowOf row) l) (k .set)
     (row-stepped (head x) x L c r l row (k .there) (k .some) (k .short) (k .long) (k .listed) (k .came))
-    (row-kind (head x) x L c r l row (k .there) (k .some) (k .short) (k .long) (k .listed) (k .came))
+    (row-word (head x) x L c r l row (k .there) (k .some) (k .short) (k .long) (k .listed) (k .came))
     (row-offsets (head x) x L c r l row (k .there) (k .some) (k .short) (k .long) (k .listed) (k .came))

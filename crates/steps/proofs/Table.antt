@@ -11,7 +11,7 @@ use Rattle.layout.specs.Entries.{entries, chunkAt, wordAt, prefixAt}
 use Rattle.layout.specs.declared.head.Header.{Header}
 use Rattle.layout_laws.proofs.Entries.{chunk-direct, word-direct, prefix-direct, chunk-over, word-over, prefix-over, Which, direct, over, which}
 use Rattle.steps.proofs.Puts as puts
-use Rattle.steps.proofs.Puts.{Run, Put, put-alike}
+use Rattle.steps.proofs.Puts.{Run, Put, Alike, put-alike}
 
 -- the directory of a table
 abbrev pub runOf : Header → List ℕ → Run
@@ -63,6 +63,16 @@ module _ (h : Header) (t t′ : List ℕ) (e : ℕ) where
 -- ---- an owner
 
 -- past the entries nothing of the directory stands
+pub owner-alike : (h : Header) (u : List ℕ) (i v : ℕ) → overCount u ≤ h .v → rowOwnersAt h ≤ i → Alike (runOf h u) (runOf h (set u i v))
+owner-alike h u i v f l =
+    let off : (j : ℕ) → j < rowOwnersAt h → getD (set u i v) j 0 ≡ getD u j 0 = λ j m. getD-set-other u i j v 0 (omega arith) in
+    record {
+      size = ap (λ (n : ℕ). h .d + n) (off 7 (omega arith));
+      keys = λ e m. chunk-same h u (set u i v) e (λ j q. off (overAt h j) (omega arith));
+      words = λ e m. word-same h u (set u i v) e (λ q. off (directAt e) (omega arith)) (λ j q. off (overAt h j + 1) (omega arith));
+      prefixes = λ e m. prefix-same h u (set u i v) e (λ q. off (directAt e + 1) (omega arith)) (λ j q. off (overAt h j + 2) (omega arith));
+    }
+
 pub owner-set : (h : Header) (t u : List ℕ) (c w i v : ℕ) → Wrote h t u c w → rowOwnersAt h ≤ i → Wrote h t (set u i v) c w
 owner-set h t u c w i v z l =
     let f = z .fits in
@@ -74,14 +84,7 @@ owner-set h t u c w i v z l =
       more = let m = z .more in omega arith;
       fits = omega arith;
       spare = λ j a b. off j b ∙ z .spare j (omega arith) b;
-      put =
-          put-alike (runOf h t) (runOf h u) (runOf h (set u i v)) c w (z .put)
-          (record {
-            size = ap (λ (n : ℕ). h .d + n) seven;
-            keys = λ e m. chunk-same h u (set u i v) e (λ j q. off (overAt h j) (omega arith));
-            words = λ e m. word-same h u (set u i v) e (λ q. off (directAt e) (omega arith)) (λ j q. off (overAt h j + 1) (omega arith));
-            prefixes = λ e m. prefix-same h u (set u i v) e (λ q. off (directAt e + 1) (omega arith)) (λ j q. off (overAt h j + 2) (omega arith));
-          });
+      put = put-alike (runOf h t) (runOf h u) (runOf h (set u i v)) c w (z .put) (owner-alike h u i v f l);
     }
 
 -- ---- an entry that is there

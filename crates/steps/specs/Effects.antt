@@ -11,7 +11,7 @@ use Rattle.layout.specs.Mem.{Mem}
 use Rattle.layout.specs.Sizes.{top, wide, lastChunk, head, modeAt, overCount}
 use Rattle.layout.specs.Places.{isDense, rowOwner, pageOwner}
 use Rattle.layout.specs.Entries.{placeOf}
-use Rattle.layout.specs.Meaning.{Kind, holds, kinds, ranked}
+use Rattle.layout.specs.Meaning.{holds, Kind, kindOf, kinds, ranked}
 use Rattle.layout.specs.Follows.{Listed, Follows}
 use Rattle.layout.specs.declared.head.Header.{Header}
 use Rattle.layout.specs.declared.place.Place.{Place}
@@ -53,12 +53,13 @@ pub record PagedOk (x : Mem) (c : ℕ) (old : Place) (p : ℕ) (page : List ℕ)
   pub long : length page ≡ wide (head x)
   pub came : PageFor (head x) (x .table) c old p
 
--- y is x but for chunk c, which has kind k and the offsets os
-pub record Becomes (x y : Mem) (c : ℕ) (k : Kind) (os : Ids) : Type 0 where
+-- y is x but for chunk c, which is now at the place q with the offsets os
+pub record Becomes (x y : Mem) (c : ℕ) (q : Place) (os : Ids) : Type 0 where
   pub follows : Follows y
   pub head-is : head y ≡ head x
   pub mode-is : modeAt (y .table) ≡ modeAt (x .table)
-  pub kinds-is : (i : ℕ) → kinds y i ≡ cond (eqb i c) k (kinds x i)
+  pub places-is : (i : ℕ) → placeOf (head x) (y .table) i ≡ cond (eqb i c) q (placeOf (head x) (x .table) i)
+  pub kinds-is : (i : ℕ) → kinds y i ≡ cond (eqb i c) (kindOf q) (kinds x i)
   pub holds-is : (n : ℕ) → holds y n ≡ cond (eqb (n / top (head x)) c) (os (n % top (head x))) (holds x n)
   pub counts : (g : ℕ → Kind → Bool) →
-      count (λ (i : ℕ). g i (kinds y i)) (lastChunk (head x)) + boolByte (g c (kinds x c)) ≡ count (λ (i : ℕ). g i (kinds x i)) (lastChunk (head x)) + boolByte (g c k)
+      count (λ (i : ℕ). g i (kinds y i)) (lastChunk (head x)) + boolByte (g c (kinds x c)) ≡ count (λ (i : ℕ). g i (kinds x i)) (lastChunk (head x)) + boolByte (g c (kindOf q))

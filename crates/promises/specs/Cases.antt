@@ -1,0 +1,133 @@
+-- Document 01's worked cases a, b, c, d, e and j at its tiny sizes: rows of one table.
+use mathlib.Core.Path.{_≡_}
+use Prim.Native.Nat.{ℕ, _-_, _^_}
+use mathlib.Core.List.{List, [], _∷_, _++_}
+use mathlib.Core.Bool.{true, false}
+use lib.IntN.{ℤ, pos, negsuc}
+use lib.ListN.{replicate}
+use Rattle.layout.specs.Mem.{Mem, mem}
+use Rattle.layout.specs.Places.{rowOwner, pageOwner}
+use Rattle.layout.specs.Meaning.{Kind, sparse, dense, kinds}
+use Rattle.layout.specs.SetUp.{sizesOf}
+use Rattle.layout.specs.declared.head.Header.{Header}
+use Rattle.layout.specs.declared.answer.Outcome.the-variants as outcome
+use Rattle.layout.specs.declared.answer.Truth.the-variants as truth
+use Rattle.layout.specs.declared.answer.Amount.the-variants as amount
+use Rattle.layout.specs.declared.answer.Perhaps.the-variants as perhaps
+use Rattle.promises.specs.Calls.{Call, insert, prepared, prepare, rank-up, Said, whether, that, many, maybe, answer, said, left}
+use Rattle.promises.specs.Asks.{Ask, len, has-any, rank-of, rank-if, reply, asked}
+use Rattle.promises.specs.Stories.{Story, made, then, described, reached}
+
+-- slices of zeros that are just long enough
+abbrev pub tiny : Header
+tiny = sizesOf 9 4 2 1 2 1
+
+abbrev pub blank : Mem
+blank = mem (replicate 8 0) (replicate 8 0) (replicate 1 0) (replicate 26 0)
+
+-- the story of calls one after the other
+abbrev pub after : Story → List Call → Story
+after s [] = s
+after s (c ∷ cs) = after (then s c) cs
+
+-- the history of calls on a fresh set
+abbrev pub from : List Call → Story
+from cs = after (made tiny blank) cs
+
+-- answers along the way: document 01's, and memory's
+abbrev pub answers : Story → List Call → List Said
+answers s [] = []
+answers s (c ∷ cs) = answer (described s) c ∷ answers (then s c) cs
+
+abbrev pub heard : Mem → List Call → List Said
+heard x [] = []
+heard x (c ∷ cs) = said x c ∷ heard (left x c) cs
+
+-- a row: calls on a fresh set, and then
+pub data Case : Type 0 where
+  -- what further calls answer
+  calls : List Call → List Call → List Said → Case
+  -- what is read
+  asks : List Call → Ask → Said → Case
+  -- the kind of a chunk
+  kind : List Call → ℕ → Kind → Case
+  -- the owner of a row or page: a chunk id plus 1, 0 where it is free
+  row : List Call → ℕ → ℕ → Case
+  page : List Call → ℕ → ℕ → Case
+
+-- by the plain set and by memory
+abbrev pub Says : Case → Type 0
+Says (calls before cs rs) = (answers (from before) cs ≡ rs) × (heard (reached (from before)) cs ≡ rs)
+Says (asks before a r) = (reply (described (from before)) a ≡ r) × (asked (reached (from before)) a ≡ r)
+Says (kind before c k) = (described (from before) .map c ≡ k) × (kinds (reached (from before)) c ≡ k)
+Says (row before r o) = rowOwner tiny (reached (from before) .table) r ≡ o
+Says (page before p o) = pageOwner tiny (reached (from before) .table) p ≡ o
+
+abbrev pub AllSay : List Case → Type 0
+AllSay [] = Unit
+AllSay (c ∷ cs) = Says c × AllSay cs
+
+-- ---- the table
+
+abbrev inserts : List ℕ → List Call
+inserts [] = []
+inserts (n ∷ ns) = insert (pos n) ∷ inserts ns
+
+abbrev minusOne : ℤ
+minusOne = negsuc 0
+
+abbrev yes : Said
+yes = whether (truth.Is true)
+
+abbrev no : Said
+no = whether (truth.Is false)
+
+abbrev refused : ℕ → Said
+refused n = whether (truth.Refused n)
+
+abbrev caseA : List Call
+caseA = insert minusOne ∷ inserts (0 ∷ 1 ∷ 2 ∷ 3 ∷ 3 ∷ 4 ∷ [])
+
+abbrev twoFull : List Call
+twoFull = inserts (0 ∷ 1 ∷ 2 ∷ 3 ∷ 512 ∷ 513 ∷ 514 ∷ 515 ∷ [])
+
+abbrev rankedFour : List Call
+rankedFour = inserts (0 ∷ 5 ∷ 7 ∷ 9 ∷ []) ++ (rank-up ∷ [])
+
+abbrev ready : List Call
+ready = prepare (pos 511) ∷ []
+
+abbrev pub table : List Case
+table =
+    -- a
+    calls [] caseA (no ∷ yes ∷ yes ∷ yes ∷ yes ∷ no ∷ yes ∷ [])
+    ∷ kind (inserts (0 ∷ 1 ∷ 2 ∷ 3 ∷ 3 ∷ [])) 0 sparse
+    ∷ kind caseA 0 dense
+    -- b
+    ∷ calls twoFull (inserts (516 ∷ 4 ∷ 1024 ∷ [])) (yes ∷ refused 8 ∷ yes ∷ [])
+    ∷ row twoFull 1 2
+    ∷ page (twoFull ++ inserts (516 ∷ [])) 0 2
+    ∷ row (twoFull ++ inserts (516 ∷ [])) 1 0
+    ∷ row (twoFull ++ inserts (516 ∷ 4 ∷ 1024 ∷ [])) 1 3
+    -- c
+    ∷ calls [] (inserts (0 ∷ 512 ∷ 1024 ∷ [])) (yes ∷ yes ∷ refused 7 ∷ [])
+    -- d
+    ∷ calls caseA (inserts (512 ∷ 1024 ∷ 1536 ∷ [])) (yes ∷ yes ∷ refused 6 ∷ [])
+    ∷ row (caseA ++ inserts (512 ∷ 1024 ∷ [])) 0 2
+    ∷ row (caseA ++ inserts (512 ∷ 1024 ∷ [])) 1 3
+    -- e
+    ∷ asks rankedFour (rank-of (negsuc 2)) (many (amount.Of 0))
+    ∷ asks rankedFour (rank-of (pos 0)) (many (amount.Of 0))
+    ∷ asks rankedFour (rank-of (pos 1)) (many (amount.Of 1))
+    ∷ asks rankedFour (rank-of (pos 9)) (many (amount.Of 3))
+    ∷ asks rankedFour (rank-of (pos 10)) (many (amount.Of 4))
+    ∷ asks rankedFour (rank-of (pos (2 ^ 63 - 1))) (many (amount.Of 4))
+    ∷ asks rankedFour (rank-if (pos 7)) (maybe (perhaps.Of 2))
+    ∷ asks rankedFour (rank-if (pos 8)) (maybe perhaps.Nothing)
+    -- j
+    ∷ asks ready has-any yes
+    ∷ asks ready len (many (amount.Of 0))
+    ∷ calls ready (prepared (pos 3) ∷ prepared (pos 3) ∷ prepared (pos 512) ∷ prepared minusOne ∷ []) (yes ∷ no ∷ refused 9 ∷ refused 9 ∷ [])
+    ∷ calls [] (prepare (pos 512) ∷ []) (that (outcome.Refused 8) ∷ [])
+    ∷ calls [] (prepare (pos 1536) ∷ []) (that (outcome.Refused 6) ∷ [])
+    ∷ []

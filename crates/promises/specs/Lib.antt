@@ -1,0 +1,5 @@
+pub mod Calls
+pub mod Asks
+pub mod Stories
+pub mod Outcomes
+pub mod Cases

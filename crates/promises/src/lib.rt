@@ -1,0 +1,1 @@
+// No code: demands 2 and 3 over histories of calls.

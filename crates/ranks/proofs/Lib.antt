@@ -1,0 +1,8 @@
+pub mod Seats
+pub mod Within
+pub mod Ranks
+pub mod Prefixes
+pub mod Blocks
+pub mod Recounts
+pub mod Forms
+pub mod Returns

@@ -1,0 +1,58 @@
+-- `into_ranked` and leaving the ranked form on any memory: a walk, then folds over entries and pages.
+use Prim.Native.Nat.{ℕ, zero, suc, _+_, _*_, _-_}
+use mathlib.Core.List.{List, [], _∷_, _++_}
+use mathlib.Core.Bool.{Bool, cond}
+use lib.ListN.{set}
+use lib.Dec.{ltb, eqb}
+use Rattle.sums.specs.Sums.{sumTo}
+use Rattle.dense.specs.Bits.{bitsTo}
+use Rattle.layout.specs.Mem.{Mem, mem}
+use Rattle.layout.specs.Sizes.{blocksOf, directAt, overAt, head, modeAt}
+use Rattle.layout.specs.Places.{pagePart}
+use Rattle.layout.specs.Entries.{entries}
+use Rattle.layout.specs.Follows.{membersAt}
+use Rattle.layout.specs.Tests.{walked}
+use Rattle.layout.specs.SetUp.{Did, did, zeroed}
+use Rattle.layout.specs.declared.head.Header.{Header}
+use Rattle.layout.specs.declared.answer.Outcome.the-variants.{Done, Refused}
+
+-- where entry e's prefix stands
+abbrev pub prefixPlace : Header → ℕ → ℕ
+prefixPlace h e = cond (ltb e (h .d)) (directAt e + 1) (overAt h (e - h .d) + 2)
+
+-- f e as the prefix of entry e, for the first n
+unfoldable pub prefixed : Header → List ℕ → (ℕ → ℕ) → ℕ → List ℕ
+prefixed h t f zero = t
+prefixed h t f (suc e) = set (prefixed h t f e) (prefixPlace h e) (f e)
+
+-- header words 6 and 8
+abbrev pub marked : List ℕ → ℕ → ℕ → List ℕ
+marked t mode total = set (set t 8 total) 6 mode
+
+-- the counts of blocks 0 to n - 1 of page p, written from its place on
+unfoldable pub blocked : Header → List ℕ → List ℕ → ℕ → ℕ → List ℕ
+blocked h pages blocks p zero = blocks
+blocked h pages blocks p (suc b) = set (blocked h pages blocks p b) (p * blocksOf h + b) (bitsTo (pagePart h pages p) (512 * b))
+
+-- of pages 0 to n - 1
+unfoldable pub blockedTo : Header → List ℕ → List ℕ → ℕ → List ℕ
+blockedTo h pages blocks zero = blocks
+blockedTo h pages blocks (suc p) = blocked h pages (blockedTo h pages blocks p) p (blocksOf h)
+
+unfoldable pub toRanked : Header → Mem → Mem
+toRanked h x =
+    mem (x .pages) (x .rows) (blockedTo h (x .pages) (x .blocks) (h .p))
+    (marked (prefixed h (x .table) (sumTo (membersAt h x)) (entries h (x .table))) 1 (sumTo (membersAt h x) (entries h (x .table))))
+
+unfoldable pub toOpen : Header → Mem → Mem
+toOpen h x =
+    mem (x .pages) (x .rows) (zeroed (h .p * blocksOf h) (x .blocks))
+    (marked (prefixed h (x .table) (λ (_ : ℕ). 0) (entries h (x .table))) 0 0)
+
+-- 3, then 4
+unfoldable pub rankUpBy : Mem → Did
+rankUpBy x = cond (walked x) (cond (eqb (modeAt (x .table)) 1) (did (Refused 4) x) (did Done (toRanked (head x) x))) (did (Refused 3) x)
+
+-- 3, then 5
+unfoldable pub openBy : Mem → Did
+openBy x = cond (walked x) (cond (eqb (modeAt (x .table)) 1) (did Done (toOpen (head x) x)) (did (Refused 5) x)) (did (Refused 3) x)

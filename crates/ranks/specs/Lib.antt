@@ -1,0 +1,3 @@
+pub mod Rank
+pub mod Form
+pub mod Promise

@@ -1,0 +1,102 @@
+-- `rank`, `rank_if_set` and `total_count` on any memory: one entry with its prefix, one block count, at most eight words.
+use Prim.Native.Nat.{ℕ, _+_, _*_, _-_, _/_, _%_, _^_}
+use mathlib.Core.List.{List}
+use mathlib.Core.Bool.{Bool, true, false, cond, _&&_}
+use lib.IntN.{ℤ, pos, negsuc}
+use lib.ListN.{length, getD, take, drop}
+use lib.Dec.{leb, ltb, eqb}
+use Rattle.numbers.specs.Ids.{splitOf}
+use Rattle.numbers.specs.declared.Split.{Split}
+use Rattle.numbers.specs.declared.Split.the-variants as split
+use Rattle.sparse.specs.Search.{lowerOf, searchIn}
+use Rattle.dense.specs.Bits.{bitsTo, isSet}
+use Rattle.layout.specs.Mem.{Mem}
+use Rattle.layout.specs.Sizes.{directAt, modeAt, overCount, totalAt}
+use Rattle.layout.specs.Short.{keyAt, overPlace}
+use Rattle.layout.specs.declared.answer.Amount.{Amount}
+use Rattle.layout.specs.declared.answer.Amount.the-variants as amount
+use Rattle.layout.specs.declared.answer.Perhaps.{Perhaps}
+use Rattle.layout.specs.declared.answer.Perhaps.the-variants as perhaps
+use Rattle.layout.specs.declared.find.Spot.{Spot}
+use Rattle.layout.specs.declared.find.Spot.the-variants.{Nowhere, Row, Page, Bad}
+use Rattle.calls.specs.Reading.{shiftOk, spotBy, isFound}
+use Rattle.ranks.specs.declared.Seat.{Seat}
+use Rattle.ranks.specs.declared.Seat.the-variants as seat
+
+-- chunk c's word (0: absent) and the members of the chunks before it
+abbrev pub directSeat : List ℕ → ℕ → Seat
+directSeat t c = cond (ltb (directAt c + 1) (length t)) (seat.At (getD t (directAt c) 0) (getD t (directAt c + 1) 0)) seat.Bad
+
+-- overflow entry k of n, from a on: the first whose id is not below c
+abbrev pub overSeat : List ℕ → ℕ → ℕ → ℕ → ℕ → Seat
+overSeat t a n c k =
+    cond (ltb k n)
+    (seat.At (cond (eqb (keyAt t a k) c) (getD t (a + 3 * k + 1) 0) 0) (getD t (a + 3 * k + 2) 0))
+    (seat.At 0 (totalAt t))
+
+abbrev pub overflowSeat : List ℕ → ℕ → ℕ → Seat
+overflowSeat t d c =
+    cond (leb d 262144 && leb (overCount t) 65536 && leb (16 + 2 * d + 3 * overCount t) (length t))
+    (overSeat t (16 + 2 * d) (overCount t) c (overPlace t (16 + 2 * d) (overCount t) c)) seat.Bad
+
+unfoldable pub seatIn : List ℕ → ℕ → Seat
+seatIn t c = cond (ltb c (getD t 2 0)) (directSeat t c) (overflowSeat t (getD t 2 0) c)
+
+-- members of a page below offset o: those before its block, and those within the block of eight words
+abbrev pub inPage : Mem → ℕ → ℕ → ℕ → Amount
+inPage x a n o =
+    cond (ltb (a / 8 + o / 512) (length (x .blocks)))
+    (amount.Of (getD (x .blocks) (a / 8 + o / 512) 0 + bitsTo (take 8 (drop (o / 512 * 8) (take n (drop a (x .pages))))) (o % 512)))
+    (amount.Refused 3)
+
+-- members of a chunk below offset o
+abbrev pub belowAt : Mem → ℕ → Spot → Amount
+belowAt x o Nowhere = amount.Of 0
+belowAt x o (Row a n l) = amount.Of (lowerOf (take n (drop a (x .rows))) l o)
+belowAt x o (Page a n) = inPage x a n o
+belowAt x o Bad = amount.Refused 3
+
+-- a prefix that no call wrote may be as large as a word
+abbrev pub plus : ℕ → Amount → Amount
+plus n (amount.Of k) = cond (ltb n (2 ^ 63)) (amount.Of (n + k)) (amount.Refused 3)
+plus n (amount.Refused c) = amount.Refused c
+
+abbrev pub rankSeat : Mem → ℕ → Seat → Amount
+rankSeat x o (seat.At w before) = plus before (belowAt x o (spotBy x w))
+rankSeat x o seat.Bad = amount.Refused 3
+
+abbrev pub rankSplit : Mem → Split → Amount
+rankSplit x (split.At c o) = rankSeat x o (seatIn (x .table) c)
+rankSplit x split.Negative = amount.Of 0
+
+-- 3, then 5, then the answer
+abbrev pub ifRanked : {A : Type 0} → List ℕ → (ℕ → A) → A → A
+ifRanked t refuse a = cond (shiftOk t && leb (modeAt t) 1) (cond (eqb (modeAt t) 1) a (refuse 5)) (refuse 3)
+
+unfoldable pub rankBy : Mem → ℤ → Amount
+rankBy x z = ifRanked (x .table) amount.Refused (rankSplit x (splitOf (getD (x .table) 0 0) z))
+
+-- `rank_if_set`: is it there, and then where
+abbrev pub hasSpot : Mem → ℕ → Spot → Bool
+hasSpot x o Nowhere = false
+hasSpot x o (Row a n l) = isFound (searchIn (take n (drop a (x .rows))) l o)
+hasSpot x o (Page a n) = isSet (take n (drop a (x .pages))) o
+hasSpot x o Bad = true
+
+abbrev pub perhapsOf : Amount → Perhaps
+perhapsOf (amount.Of k) = perhaps.Of k
+perhapsOf (amount.Refused c) = perhaps.Refused c
+
+abbrev pub rankIfSeat : Mem → ℕ → Seat → Perhaps
+rankIfSeat x o (seat.At w before) = cond (hasSpot x o (spotBy x w)) (perhapsOf (plus before (belowAt x o (spotBy x w)))) perhaps.Nothing
+rankIfSeat x o seat.Bad = perhaps.Refused 3
+
+abbrev pub rankIfSplit : Mem → Split → Perhaps
+rankIfSplit x (split.At c o) = rankIfSeat x o (seatIn (x .table) c)
+rankIfSplit x split.Negative = perhaps.Nothing
+
+unfoldable pub rankIfBy : Mem → ℤ → Perhaps
+rankIfBy x z = ifRanked (x .table) perhaps.Refused (rankIfSplit x (splitOf (getD (x .table) 0 0) z))
+
+unfoldable pub totalBy : Mem → Amount
+totalBy x = ifRanked (x .table) amount.Refused (amount.Of (totalAt (x .table)))
