@@ -18,4 +18,3 @@ pub mod PageOwners
 pub mod Needed
 pub mod Sofar
 pub mod Preparing
-pub mod Cases

@@ -3,4 +3,3 @@ pub mod Counts
 pub mod Insert
 pub mod Prepare
 pub mod Promise
-pub mod Cases

@@ -1,5 +1,5 @@
 -- Reading calls on memory that follows the layout answer by the state that it stands for. Assumes nothing.
-use mathlib.Core.Path.{_≡_, ap, subst, _∙_}
+use mathlib.Core.Path.{_≡_, ap, _∙_}
 use lib.IntN.{ℤ, pos, negsuc}
 use Rattle.numbers.specs.Ids.{chunkOf}
 use Rattle.layout.specs.Mem.{Mem}
@@ -14,7 +14,7 @@ use Rattle.ranks.specs.Promise.{rankAnswer, rankIfAnswer, totalAnswer}
 use Rattle.ranks.proofs.Ranks.{rank-is, rank-if-is, total-is}
 use Rattle.promises.specs.Calls.{whether, many, maybe}
 use Rattle.promises.specs.Asks.{Ask, get, chunk-of, len, is-empty, has-any, chunk-count, rank-of, rank-if, total-count, chunksIn, reply, asked}
-use Rattle.promises.specs.Stories.{Story, described, reached, Kept, Reads}
+use Rattle.promises.specs.Stories.{Story, Kept, Reads}
 
 module _ {x : Mem} (w : Follows x) where
   chunk-of-any : (z : ℤ) → chunkOfBy x z ≡ chunkAnswer (chunkOf (head x .s) z)

@@ -1,8 +1,8 @@
 -- Every row of document 01's worked cases holds: memory's answers are computed, and they are the plain set's by the laws of histories. Assumes nothing.
-use mathlib.Core.Path.{_≡_, refl, sym, ap, ap₂, subst, _∙_}
+use mathlib.Core.Path.{_≡_, refl, sym, ap, ap₂, subst}
 use mathlib.Core.List.{List, [], _∷_}
-use mathlib.Core.Bool.{Bool, true, cond, _&&_}
-use Prim.Native.Nat.{ℕ, _^_, _-_}
+use mathlib.Core.Bool.{Bool, true, _&&_}
+use Prim.Native.Nat.{_^_}
 use lib.IntN.{ℤ}
 use lib.Dec.{ltb}
 use lib.Signed.{mag}
@@ -32,9 +32,9 @@ use Rattle.calls.specs.Counts.{goodAt, sizeAt, usedAt, partsOk, lenBy, hasAnyBy
 use Rattle.calls.specs.Promise.{State}
 use Rattle.ranks.specs.Form.{prefixed, blocked, blockedTo, toRanked, rankUpBy}
 use Rattle.ranks.specs.Rank.{seatIn, rankBy, rankIfBy}
-use Rattle.promises.specs.Calls.{Call, insert, prepared, prepare, rank-up, leave, Fitting, Said, answer, said}
+use Rattle.promises.specs.Calls.{Call, insert, prepared, prepare, rank-up, leave, Fitting, Said}
 use Rattle.promises.specs.Asks.{asked}
-use Rattle.promises.specs.Stories.{Story, made, then, Told, described, reached}
+use Rattle.promises.specs.Stories.{Story, made, then, Told, reached}
 use Rattle.promises.specs.Cases.{tiny, blank, after, from, answers, heard, Case, calls, asks, kind, row, page, Says, AllSay, table}
 use Rattle.promises.proofs.Histories.{all-kept}
 use Rattle.promises.proofs.Answers.{kept-reads}

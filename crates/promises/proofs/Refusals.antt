@@ -1,11 +1,11 @@
 -- A refused call changes nothing, on any memory; no answer that document 01 gives is a 3. Assumes nothing.
-use mathlib.Core.Path.{_≡_, refl, ap}
+use mathlib.Core.Path.{_≡_, ap}
 use mathlib.Core.Bool.{Bool, true, false, cond}
 use Prim.Native.Nat.{ℕ, _/_}
 use native.Mathlib.Omega.{arith}
 use lib.IntN.{ℤ, pos, negsuc}
-use lib.Dec.{ltb, eqb}
-use Rattle.sums.specs.Ids.{has, total, rank, RankIf, rankIf}
+use lib.Dec.{ltb}
+use Rattle.sums.specs.Ids.{total, rank, RankIf, rankIf}
 use Rattle.numbers.specs.Ids.{chunkOf}
 use Rattle.layout.specs.Mem.{Mem}
 use Rattle.layout.specs.Sizes.{top}
@@ -15,9 +15,7 @@ use Rattle.layout.specs.declared.answer.Outcome.{Outcome}
 use Rattle.layout.specs.declared.answer.Outcome.the-variants as outcome
 use Rattle.layout.specs.declared.answer.Truth.{Truth}
 use Rattle.layout.specs.declared.answer.Truth.the-variants as truth
-use Rattle.layout.specs.declared.answer.Amount.{Amount}
 use Rattle.layout.specs.declared.answer.Amount.the-variants as amount
-use Rattle.layout.specs.declared.answer.Perhaps.{Perhaps}
 use Rattle.layout.specs.declared.answer.Perhaps.the-variants as perhaps
 use Rattle.calls.specs.Insert.{insertBy, preparedBy}
 use Rattle.calls.specs.Prepare.{prepareBy}
@@ -28,7 +26,7 @@ use Rattle.ranks.specs.Form.{rankUpBy, openBy}
 use Rattle.ranks.specs.Promise.{perhapsRank}
 use Rattle.ranks.proofs.Forms.{rank-up-refused, open-refused}
 use Rattle.promises.specs.Calls.{Call, insert, prepared, prepare, rank-up, leave, Said, whether, that, many, maybe, Refuses, answer, said, left}
-use Rattle.promises.specs.Asks.{Ask, get, chunk-of, len, is-empty, has-any, chunk-count, rank-of, rank-if, total-count, chunksIn, reply}
+use Rattle.promises.specs.Asks.{Ask, get, chunk-of, len, is-empty, has-any, chunk-count, rank-of, rank-if, total-count, reply}
 
 -- ---- nothing changes
 

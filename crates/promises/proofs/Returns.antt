@@ -1,5 +1,5 @@
 -- Ranking an open set and leaving the ranked form reaches the same memory. Assumes nothing.
-use mathlib.Core.Path.{_≡_, refl, ap, _∙_}
+use mathlib.Core.Path.{_≡_, ap, _∙_}
 use mathlib.Core.Bool.{Bool, true, false, cond}
 use Rattle.layout.specs.Mem.{Mem}
 use Rattle.layout.specs.Sizes.{head}

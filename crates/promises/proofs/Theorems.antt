@@ -1,5 +1,5 @@
 -- Demand 2 of document 01, for every history of calls on memory that set-up made; what a customer reads. Assumes nothing.
-use mathlib.Core.Path.{_≡_, sym, ap, subst, _∙_}
+use mathlib.Core.Path.{_≡_, ap, subst, _∙_}
 use mathlib.Core.Bool.{false}
 use Prim.Native.Nat.{ℕ}
 use Rattle.layout.specs.Mem.{Mem}

@@ -1,6 +1,6 @@
 -- The calls that read a set: what each answers, by document 01's words alone, and by memory.
 use Prim.Native.Nat.{ℕ}
-use mathlib.Core.Bool.{Bool, cond, not}
+use mathlib.Core.Bool.{cond, not}
 use lib.IntN.{ℤ}
 use lib.Dec.{eqb}
 use Rattle.sums.specs.Ids.{has, count, total, rank, rankIf}

@@ -6,7 +6,6 @@ use lib.IntN.{ℤ}
 use mir.Syntax.{w64}
 use mir.Val.{SFits}
 use Rattle.layout.specs.Mem.{Mem}
-use Rattle.layout.specs.SetUp.{Did}
 use Rattle.layout.specs.Meaning.{absent}
 use Rattle.layout.specs.declared.head.Header.{Header}
 use Rattle.layout.specs.declared.answer.Outcome.{Outcome}
@@ -17,7 +16,7 @@ use Rattle.layout.specs.declared.answer.Amount.{Amount}
 use Rattle.layout.specs.declared.answer.Amount.the-variants as amount
 use Rattle.layout.specs.declared.answer.Perhaps.{Perhaps}
 use Rattle.layout.specs.declared.answer.Perhaps.the-variants as perhaps
-use Rattle.calls.specs.Insert.{Told, insertBy, preparedBy}
+use Rattle.calls.specs.Insert.{insertBy, preparedBy}
 use Rattle.calls.specs.Prepare.{prepareBy}
 use Rattle.calls.specs.Promise.{State, isId, newAnswer, mapAfter, preparedAnswer, mapPrepared, prepareAnswer}
 use Rattle.ranks.specs.Form.{rankUpBy, openBy}

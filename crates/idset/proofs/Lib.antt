@@ -1,0 +1,5 @@
+pub mod Shifts
+pub mod Spots
+pub mod Gets
+pub mod Runs
+pub mod Totals

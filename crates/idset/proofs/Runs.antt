@@ -1,0 +1,147 @@
+-- The entries one by one: what lets them be read, and the word, the part and the members of each. Assumes nothing.
+use mathlib.Core.Path.{_≡_, refl, sym, _∙_, ap, ap₂}
+use mathlib.Core.List.{List}
+use mathlib.Core.Bool.{Bool, true, false, not, _&&_}
+use Prim.Native.Nat.{ℕ, zero, suc, _+_, _-_, _*_, _^_, _≤_, _<_}
+use native.Mathlib.Omega.{arith}
+use lib.Dec.{leb, ltb, eqb}
+use lib.ListN.{length, getD, take, drop}
+use borrow.Author.Tests.{leb-true, lt-ltb, eq-eqb, ne-eqb, not-true, not-false}
+use Rattle.sums.proofs.Rules.{both}
+use Rattle.dense.specs.Bits.{bitsTo, anyIn}
+use Rattle.dense.proofs.Counts.{bits-zero, bits-le}
+use Rattle.numbers.proofs.Powers.{powers}
+use Rattle.layout.specs.Mem.{Mem}
+use Rattle.layout.specs.Sizes.{headerAt, overCount}
+use Rattle.layout.specs.Entries.{wordAt}
+use Rattle.layout.specs.Short.{spotOf}
+use Rattle.layout.proofs.Entries.{word-below, word-past}
+use Rattle.layout.specs.declared.find.Spot.{Spot}
+use Rattle.layout.specs.declared.find.Spot.the-variants.{Nowhere, Row, Page, Bad}
+use Rattle.calls.specs.Reading.{shiftOk, spotBy}
+use Rattle.calls.specs.Counts.{entriesOk, wordBy, isGood, sizeIn, goodAt, sizeAt}
+use Rattle.idset.proofs.Spots.{InRows, InPages, spot-row, spot-page, span, length-part}
+
+-- ---- sizes that let every entry be read
+
+pub record Run (t : List ℕ) : Type 0 where
+  pub low : 9 ≤ getD t 0 0
+  pub high : getD t 0 0 ≤ 25
+  pub direct : getD t 2 0 ≤ 262144
+  pub over : overCount t ≤ 65536
+
+pub run : (t : List ℕ) → entriesOk t ≡ true → Run t
+run t h =
+    let a = both (shiftOk t && leb (getD t 2 0) 262144 && leb (overCount t) 65536) (leb (16 + 2 * getD t 2 0 + 3 * overCount t) (length t)) h in
+    let b = both (shiftOk t && leb (getD t 2 0) 262144) (leb (overCount t) 65536) (a .0) in
+    let c = both (shiftOk t) (leb (getD t 2 0) 262144) (b .0) in
+    let d = both (leb 9 (getD t 0 0)) (leb (getD t 0 0) 25) (c .0) in
+    record {
+      low = leb-true 9 (getD t 0 0) (d .0);
+      high = leb-true (getD t 0 0) 25 (d .1);
+      direct = leb-true (getD t 2 0) 262144 (c .1);
+      over = leb-true (overCount t) 65536 (b .1);
+    }
+
+pub shift-read : (t : List ℕ) (s : ℕ) → Run t → s ≡ getD t 0 0 → (9 ≤ s) × (s ≤ 25)
+shift-read t s r e = let l = r .low in let h = r .high in (omega (arith, e), omega (arith, e))
+
+pub number-small : (t : List ℕ) (d n : ℕ) → Run t → d ≡ getD t 2 0 → n ≡ overCount t → (d ≤ 262144) × (n ≤ 65536)
+number-small t d n r e f = let l = r .direct in let h = r .over in (omega (arith, e), omega (arith, f))
+
+-- the test, on what was read
+module _ (t : List ℕ) (s d n : ℕ) (es : s ≡ getD t 0 0) (ed : d ≡ getD t 2 0) (en : n ≡ overCount t) where
+  same : (leb 9 s && leb s 25 && leb d 262144 && leb n 65536) ≡ (shiftOk t && leb (getD t 2 0) 262144 && leb (overCount t) 65536)
+  same =
+      ap (λ (k : ℕ). leb 9 k && leb k 25 && leb d 262144 && leb n 65536) es
+      ∙ ap₂ (λ (i j : ℕ). shiftOk t && leb i 262144 && leb j 65536) ed en
+
+  rest : Bool → Bool
+  rest b = b && leb (16 + 2 * getD t 2 0 + 3 * overCount t) (length t)
+
+  pub entries-no : not (leb 9 s && leb s 25 && leb d 262144 && leb n 65536) ≡ true → false ≡ entriesOk t
+  unfolding rest
+  entries-no h = ap rest (sym (sym same ∙ not-true _ h))
+
+  module _ (h : not (leb 9 s && leb s 25 && leb d 262144 && leb n 65536) ≡ false) where
+    pub entries-rest : leb (16 + 2 * d + 3 * n) (length t) ≡ entriesOk t
+    unfolding rest
+    entries-rest = ap₂ (λ (i j : ℕ). leb (16 + 2 * i + 3 * j) (length t)) ed en ∙ ap rest (sym (sym same ∙ not-false _ h))
+
+    pub entries-small : (d ≤ 262144) × (n ≤ 65536)
+    entries-small =
+        let a = both (leb 9 s && leb s 25 && leb d 262144) (leb n 65536) (not-false _ h) in
+        let b = both (leb 9 s && leb s 25) (leb d 262144) (a .0) in
+        (leb-true d 262144 (b .1), leb-true n 65536 (a .1))
+
+-- ---- the word and the part of entry e
+
+module _ (t : List ℕ) (e d : ℕ) (ed : d ≡ getD t 2 0) where
+  pub word-direct : e < d → getD t (16 + 2 * e) 0 ≡ wordAt (headerAt t) t e
+  word-direct l = word-below (headerAt t) t e (omega (arith, ed))
+
+  pub word-over : d ≤ e → getD t (16 + 2 * d + 3 * (e - d) + 1) 0 ≡ wordAt (headerAt t) t e
+  word-over l =
+      ap (λ (k : ℕ). getD t (16 + 2 * k + 3 * (e - k) + 1) 0) ed ∙ word-past (headerAt t) t e (omega (arith, ed))
+
+pub spot-entry : (x : Mem) (e s m w : ℕ) (q : Spot) → s ≡ getD (x .table) 0 0 → m ≡ getD (x .table) 1 0 → w ≡ wordBy x e → q ≡ spotOf s m (length (x .pages)) (length (x .rows)) w → q ≡ spotBy x (wordBy x e)
+spot-entry x e s m w q es em ew h =
+    h ∙ (ap₂ (λ (i j : ℕ). spotOf i j (length (x .pages)) (length (x .rows)) w) es em ∙ ap (spotBy x) ew)
+
+-- ---- members of entry e
+
+zero-not : (k : ℕ) → not (ltb 0 k) ≡ eqb k 0
+zero-not zero = refl
+zero-not (suc k) = ap not (lt-ltb 0 (suc k) (omega arith)) ∙ sym (ne-eqb (suc k) 0 (λ (e : suc k ≡ 0). omega arith))
+
+-- no bit up to the last
+none-bit : (ws : List ℕ) (n : ℕ) → 1 ≤ n → not (anyIn ws 0 (64 * n - 1)) ≡ eqb (bitsTo ws (64 * n)) 0
+unfolding anyIn
+none-bit ws n h =
+    let e : 64 * n - 1 + 1 ≡ 64 * n = omega arith in
+    ap not (ap₂ ltb (bits-zero ws) (ap (bitsTo ws) e)) ∙ zero-not (bitsTo ws (64 * n))
+
+module _ (x : Mem) (e : ℕ) where
+  module _ (q : Spot) (f : q ≡ spotBy x (wordBy x e)) where
+    pub good-is : isGood q ≡ goodAt x e
+    unfolding goodAt
+    good-is = ap isGood f
+
+    pub size-is : sizeIn x q ≡ sizeAt x e
+    unfolding sizeAt
+    size-is = ap (sizeIn x) f
+
+    pub none-is : eqb (sizeIn x q) 0 ≡ eqb (sizeAt x e) 0
+    none-is = ap (λ (k : ℕ). eqb k 0) size-is
+
+  module _ (a n : ℕ) (f : Page a n ≡ spotBy x (wordBy x e)) where
+    pub page-here : InPages (getD (x .table) 0 0) (length (x .pages)) a n
+    page-here = spot-page (getD (x .table) 0 0) (getD (x .table) 1 0) (length (x .pages)) (length (x .rows)) (wordBy x e) a n (sym f)
+
+    pub page-size : (k : ℕ) → k ≡ bitsTo (take (a + n - a) (drop a (x .pages))) (64 * length (take (a + n - a) (drop a (x .pages)))) → k ≡ sizeAt x e
+    page-size k g =
+        g ∙ (ap₂ (λ (i j : ℕ). bitsTo (take i (drop a (x .pages))) (64 * j)) (span a n) (length-part (x .pages) a n (page-here .inside)) ∙ size-is (Page a n) f)
+
+    pub page-none : (b : Bool) → 1 ≤ n → b ≡ anyIn (take (a + n - a) (drop a (x .pages))) 0 (64 * n - 1) → not b ≡ eqb (sizeAt x e) 0
+    page-none b h g =
+        ap not (g ∙ ap (λ (i : ℕ). anyIn (take i (drop a (x .pages))) 0 (64 * n - 1)) (span a n))
+        ∙ (none-bit (take n (drop a (x .pages))) n h ∙ none-is (Page a n) f)
+
+    pub page-small : Run (x .table) → (8 ≤ n) × (n ≤ 524288)
+    page-small r =
+        let p = powers (getD (x .table) 0 0) (r .low) (r .high) in
+        let w = page-here .wide in
+        (omega (arith, p .some-words), omega (arith, p .most-words))
+
+  -- a chunk has at most 2^25 members
+  pub size-most : Run (x .table) → sizeAt x e ≤ 33554432
+  unfolding sizeAt
+  size-most r = go (spotBy x (wordBy x e)) refl
+    where
+      go : (q : Spot) → q ≡ spotBy x (wordBy x e) → sizeIn x q ≤ 33554432
+      go Nowhere f = omega arith
+      go (Row a n l) f =
+          let i = spot-row (getD (x .table) 0 0) (getD (x .table) 1 0) (length (x .pages)) (length (x .rows)) (wordBy x e) a n l (sym f) in
+          omega (arith, i .short, i .small)
+      go (Page a n) f = omega (arith, page-small a n f r, bits-le (take n (drop a (x .pages))) (64 * n))
+      go Bad f = omega arith

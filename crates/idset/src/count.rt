@@ -1,0 +1,88 @@
+// Counts of members and of chunks, in both modes. The run tests each entry as it comes.
+ghost use mathlib.Core.Path.{_≡_};
+ghost use Rattle.layout.specs.Mem.{memOf};
+ghost use Rattle.calls.specs.Counts.{lenBy, isEmptyBy, hasAnyBy, chunksBy};
+use crate::entries;
+use layout::answer::Amount;
+use layout::answer::Truth;
+
+// The members.
+pub fn len(pages: &[u64], rows: &[u32], blocks: &[u32], table: &[u64]) -> Amount
+    ensures { λ r. ⌜ r ≡ lenBy (memOf (pages .entry) (rows .entry) (blocks .entry) (table .entry)) ⌝ }
+{
+    if !entries::are(table) {
+        return Amount::Refused(3);
+    }
+    let n = entries::number(table);
+    let mut good = true;
+    let mut sum: u64 = 0;
+    let mut e: u64 = 0;
+    while e < n {
+        let p = entries::part_at(pages, rows, blocks, table, e);
+        good = good & p.good;
+        sum += p.size;
+        e += 1;
+    }
+    if good {
+        return Amount::Of(sum);
+    }
+    Amount::Refused(3)
+}
+
+// Whether there is no member.
+pub fn is_empty(pages: &[u64], rows: &[u32], blocks: &[u32], table: &[u64]) -> Truth
+    ensures { λ r. ⌜ r ≡ isEmptyBy (memOf (pages .entry) (rows .entry) (blocks .entry) (table .entry)) ⌝ }
+{
+    if !entries::are(table) {
+        return Truth::Refused(3);
+    }
+    let n = entries::number(table);
+    let mut good = true;
+    let mut none = true;
+    let mut e: u64 = 0;
+    while e < n {
+        let p = entries::vacancy_at(pages, rows, blocks, table, e);
+        good = good & p.good;
+        none = none & p.none;
+        e += 1;
+    }
+    if good {
+        return Truth::Is(none);
+    }
+    Truth::Refused(3)
+}
+
+// Whether there is a chunk, be it empty.
+pub fn has_any(pages: &[u64], rows: &[u32], blocks: &[u32], table: &[u64]) -> Truth
+    ensures { λ r. ⌜ r ≡ hasAnyBy (memOf (pages .entry) (rows .entry) (blocks .entry) (table .entry)) ⌝ }
+{
+    if !entries::are(table) {
+        return Truth::Refused(3);
+    }
+    let n = entries::number(table);
+    let mut e: u64 = 0;
+    while e < n {
+        if entries::word_at(table, e) != 0 {
+            return Truth::Is(true);
+        }
+        e += 1;
+    }
+    Truth::Is(false)
+}
+
+// The chunks, empty ones too.
+pub fn allocated_chunk_count(pages: &[u64], rows: &[u32], blocks: &[u32], table: &[u64]) -> Amount
+    ensures { λ r. ⌜ r ≡ chunksBy (memOf (pages .entry) (rows .entry) (blocks .entry) (table .entry)) ⌝ }
+{
+    if !entries::are(table) {
+        return Amount::Refused(3);
+    }
+    let n = entries::number(table);
+    let mut sum: u64 = 0;
+    let mut e: u64 = 0;
+    while e < n {
+        sum += (entries::word_at(table, e) != 0) as u64;
+        e += 1;
+    }
+    Amount::Of(sum)
+}

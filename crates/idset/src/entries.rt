@@ -1,0 +1,129 @@
+// The entries one by one: whether they lie in the table, their words, and the part that each names.
+ghost use mathlib.Core.Path.{_≡_};
+ghost use mathlib.Core.Bool.{true};
+ghost use Prim.Native.Nat.{_≤_};
+ghost use lib.Dec.{eqb};
+ghost use Rattle.layout.specs.Mem.{memOf};
+ghost use Rattle.layout.specs.Sizes.{headerAt};
+ghost use Rattle.layout.specs.Entries.{wordAt, entries};
+ghost use Rattle.calls.specs.Reading.{spotBy};
+ghost use Rattle.calls.specs.Counts.{entriesOk, wordBy, goodAt, sizeAt};
+use dense::words;
+use layout::find;
+use layout::find::Spot;
+use numbers::place as element;
+
+// Whether an entry's part is inside its pool, and its members.
+pub struct Part {
+    pub good: bool,
+    pub size: u64,
+}
+
+// The same, asking only whether there is none.
+pub struct Vacancy {
+    pub good: bool,
+    pub none: bool,
+}
+
+// The entries lie inside the table.
+pub fn are(table: &[u64]) -> bool
+    ensures { λ b. ⌜ b ≡ entriesOk (now (table .entry)) ⌝ }
+{
+    let s = element::at(table, 0);
+    let d = element::at(table, 2);
+    let n = element::at(table, 7);
+    if !((9 <= s) & (s <= 25) & (d <= 262144) & (n <= 65536)) {
+        return false;
+    }
+    16 + 2 * d + 3 * n <= table.len() as u64
+}
+
+// How many there are.
+pub fn number(table: &[u64]) -> u64
+    requires { ⌜ entriesOk (now table) ≡ true ⌝ }
+    ensures { λ n. ⌜ (n ≡ entries (headerAt (now (table .entry))) (now (table .entry))) × (n ≤ 327680) ⌝ }
+{
+    element::at(table, 2) + element::at(table, 7)
+}
+
+// The word of entry e.
+pub fn word_at(table: &[u64], e: u64) -> u64
+    requires { ⌜ (entriesOk (now table) ≡ true) × (e ≤ 327680) ⌝ }
+    ensures { λ w. ⌜ w ≡ wordAt (headerAt (now (table .entry))) (now (table .entry)) e ⌝ }
+{
+    let d = element::at(table, 2);
+    if e < d {
+        return element::at(table, 16 + 2 * e);
+    }
+    element::at(table, 16 + 2 * d + 3 * (e - d) + 1)
+}
+
+// The part that entry e names.
+pub fn spot_at(pages: &[u64], rows: &[u32], blocks: &[u32], table: &[u64], e: u64) -> Spot
+    requires { ⌜ (entriesOk (now table) ≡ true) × (e ≤ 327680) ⌝ }
+    ensures { λ q. ⌜ q ≡ spotBy (memOf (pages .entry) (rows .entry) (blocks .entry) (table .entry)) (wordBy (memOf (pages .entry) (rows .entry) (blocks .entry) (table .entry)) e) ⌝ }
+{
+    find::spot_of(
+        element::at(table, 0),
+        element::at(table, 1),
+        pages.len() as u64,
+        rows.len() as u64,
+        word_at(table, e),
+    )
+}
+
+// The members of entry e.
+pub fn part_at(pages: &[u64], rows: &[u32], blocks: &[u32], table: &[u64], e: u64) -> Part
+    requires { ⌜ (entriesOk (now table) ≡ true) × (e ≤ 327680) ⌝ }
+    ensures { λ p. ⌜ (p .good ≡ goodAt (memOf (pages .entry) (rows .entry) (blocks .entry) (table .entry)) e) × (p .size ≡ sizeAt (memOf (pages .entry) (rows .entry) (blocks .entry) (table .entry)) e) ⌝ }
+{
+    match spot_at(pages, rows, blocks, table, e) {
+        Spot::Nowhere => Part {
+            good: true,
+            size: 0,
+        },
+        Spot::Row(_, _, l) => Part {
+            good: true,
+            size: l as u64,
+        },
+        Spot::Page(a, n) => {
+            let b = a + n;
+            Part {
+                good: true,
+                size: words::count(&pages[a..b]),
+            }
+        }
+        Spot::Bad => Part {
+            good: false,
+            size: 0,
+        },
+    }
+}
+
+// Whether entry e has no member: a page is read up to its first.
+pub fn vacancy_at(pages: &[u64], rows: &[u32], blocks: &[u32], table: &[u64], e: u64) -> Vacancy
+    requires { ⌜ (entriesOk (now table) ≡ true) × (e ≤ 327680) ⌝ }
+    ensures { λ p. ⌜ (p .good ≡ goodAt (memOf (pages .entry) (rows .entry) (blocks .entry) (table .entry)) e) × (p .none ≡ eqb (sizeAt (memOf (pages .entry) (rows .entry) (blocks .entry) (table .entry)) e) 0) ⌝ }
+{
+    match spot_at(pages, rows, blocks, table, e) {
+        Spot::Nowhere => Vacancy {
+            good: true,
+            none: true,
+        },
+        Spot::Row(_, _, l) => Vacancy {
+            good: true,
+            none: l == 0,
+        },
+        Spot::Page(a, n) => {
+            let b = a + n;
+            Vacancy {
+                good: true,
+                none: !dense::any_in(&pages[a..b], 0, 64 * (n as u64) - 1),
+            }
+        }
+        Spot::Bad => Vacancy {
+            good: false,
+            none: true,
+        },
+    }
+}

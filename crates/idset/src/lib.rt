@@ -1,0 +1,5 @@
+// The calls on a set: membership, counts, inserts.
+mod chunk;
+pub mod count;
+mod entries;
+pub mod read;

@@ -1,0 +1,39 @@
+// Membership and chunk ids, in both modes.
+ghost use mathlib.Core.Path.{_≡_};
+ghost use Rattle.layout.specs.Mem.{memOf};
+ghost use Rattle.calls.specs.Reading.{getBy, chunkOfBy};
+use crate::chunk;
+use layout::answer::Perhaps;
+use layout::answer::Truth;
+use numbers::Natural;
+use numbers::Split;
+use numbers::id as ids;
+use numbers::place as element;
+
+// Whether an id is a member. A negative one never is.
+pub fn get(pages: &[u64], rows: &[u32], blocks: &[u32], table: &[u64], id: i64) -> Truth
+    ensures { λ r. ⌜ r ≡ getBy (memOf (pages .entry) (rows .entry) (blocks .entry) (table .entry)) id ⌝ }
+{
+    let s = element::at(table, 0);
+    if !((9 <= s) & (s <= 25)) {
+        return Truth::Refused(3);
+    }
+    match ids::split(id, s) {
+        Split::Negative => Truth::Is(false),
+        Split::At(c, o) => chunk::has(pages, rows, blocks, table, s, c, o),
+    }
+}
+
+// The chunk that an id lives in, none for a negative one.
+pub fn chunk_of(pages: &[u64], rows: &[u32], blocks: &[u32], table: &[u64], id: i64) -> Perhaps
+    ensures { λ r. ⌜ r ≡ chunkOfBy (memOf (pages .entry) (rows .entry) (blocks .entry) (table .entry)) id ⌝ }
+{
+    let s = element::at(table, 0);
+    if !((9 <= s) & (s <= 25)) {
+        return Perhaps::Refused(3);
+    }
+    match ids::chunk_of(id, s) {
+        Natural::Negative => Perhaps::Nothing,
+        Natural::At(c) => Perhaps::Of(c),
+    }
+}

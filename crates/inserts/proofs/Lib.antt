@@ -1,0 +1,5 @@
+pub mod Frees
+pub mod Plans
+pub mod Readies
+pub mod Acts
+pub mod Gates

@@ -1,0 +1,151 @@
+-- The plan of an insert, way by way. Assumes nothing.
+use mathlib.Core.Path.{_≡_, sym, _∙_, ap, ap₂}
+use mathlib.Core.List.{List}
+use mathlib.Core.Bool.{Bool, true, false, cond, not, _&&_}
+use Prim.Native.Nat.{ℕ, _+_, _-_, _*_, _/_, _≤_, _<_}
+use native.Mathlib.Omega.{arith}
+use lib.Dec.{leb, ltb, eqb}
+use lib.ListN.{length, getD, take, drop}
+use borrow.Author.Tests.{lt-ltb, le-ltb, not-true, not-false}
+use Rattle.sparse.specs.Search.{spotIn}
+use Rattle.sparse.specs.declared.Place.{Place}
+use Rattle.sparse.specs.declared.Place.the-variants.{Found, Free}
+use Rattle.dense.specs.Bits.{isSet}
+use Rattle.layout.specs.Mem.{Mem}
+use Rattle.layout.specs.Sizes.{InRange, head, overCount}
+use Rattle.layout.specs.Short.{spotOf, wordIn}
+use Rattle.layout.specs.Tests.{headIs}
+use Rattle.layout.proofs.Tests.{HeadIs, head-of}
+use Rattle.layout.specs.declared.head.Header.{Header}
+use Rattle.layout.specs.declared.find.Word.{Word}
+use Rattle.layout.specs.declared.find.Word.the-variants as word
+use Rattle.layout.specs.declared.find.Spot.{Spot}
+use Rattle.calls.specs.Reading.{spotBy, spotIf}
+use Rattle.calls.specs.Insert.{firstFree, freeRow, freePage, planBegin, planTurn, planRow, planSpot, planWord, preparedSpot}
+use Rattle.calls.specs.declared.plan.Plan.{Plan}
+use Rattle.calls.specs.declared.plan.Plan.the-variants.{Refuse, Known, Mark, Enter, Begin, Turn}
+use Rattle.idset.proofs.Spots.{span}
+
+-- ---- where the header is looked at
+
+-- a new chunk: the header is good, the overflow table is full, a row is free
+abbrev begins : Bool → Bool → Bool → ℕ → Plan
+begins a o t r = cond a (cond o (Refuse 6) (cond t (Begin r) (Refuse 7))) (Refuse 3)
+
+-- a full row: the header is good, the row is there, a page is free
+abbrev turns : Bool → Bool → Bool → ℕ → ℕ → ℕ → Plan
+turns a o t r l p = cond (a && o) (cond t (Turn r l p) (Refuse 8)) (Refuse 3)
+
+module _ (x : Mem) (h : Header) (e : h ≡ head x) (b : Bool) (f : b ≡ headIs h x) where
+  head-is : headIs (head x) x ≡ b
+  head-is = ap (λ (k : Header). headIs k x) (sym e) ∙ sym f
+
+  pub head-good : not b ≡ false → HeadIs h x
+  head-good g = head-of h x .sound (sym f ∙ not-false b g)
+
+  module _ (c : ℕ) where
+    pub begin-bad : not b ≡ true → Refuse 3 ≡ planBegin x c (freeRow x)
+    begin-bad g =
+        ap (λ (a : Bool). begins a (leb (head x .d) c && leb (head x .v) (overCount (x .table))) (ltb (freeRow x) (head x .r)) (freeRow x)) (sym (head-is ∙ not-true b g))
+
+    module _ (g : not b ≡ false) (n : ℕ) (en : n ≡ overCount (x .table)) where
+      full : (leb (head x .d) c && leb (head x .v) (overCount (x .table))) ≡ (leb (h .d) c && leb (h .v) n)
+      full = ap₂ (λ (k : Header) (i : ℕ). leb (k .d) c && leb (k .v) i) (sym e) (sym en)
+
+      begun : (o : Bool) → (leb (h .d) c && leb (h .v) n) ≡ o → begins true o (ltb (freeRow x) (head x .r)) (freeRow x) ≡ planBegin x c (freeRow x)
+      begun o k = ap₂ (λ (i j : Bool). begins i j (ltb (freeRow x) (head x .r)) (freeRow x)) (sym (head-is ∙ not-false b g)) (sym (full ∙ k))
+
+      pub begin-six : (leb (h .d) c && leb (h .v) n) ≡ true → Refuse 6 ≡ planBegin x c (freeRow x)
+      begin-six k = begun true k
+
+      module _ (k : (leb (h .d) c && leb (h .v) n) ≡ false) (r : ℕ) (er : r ≡ firstFree (λ (i : ℕ). getD (x .table) (16 + 2 * h .d + 3 * h .v + i) 0) 0 (h .r)) where
+        row-is : r ≡ freeRow x
+        row-is = er ∙ ap (λ (k : Header). firstFree (λ (i : ℕ). getD (x .table) (16 + 2 * k .d + 3 * k .v + i) 0) 0 (k .r)) e
+
+        fits : ltb (freeRow x) (head x .r) ≡ ltb r (h .r)
+        fits = ap₂ (λ (i : ℕ) (k : Header). ltb i (k .r)) (sym row-is) (sym e)
+
+        pub begin-row : r < h .r → Begin r ≡ planBegin x c (freeRow x)
+        begin-row l = ap Begin row-is ∙ ap (λ (t : Bool). begins true false t (freeRow x)) (sym (fits ∙ lt-ltb r (h .r) l)) ∙ begun false k
+
+        pub begin-seven : h .r ≤ r → Refuse 7 ≡ planBegin x c (freeRow x)
+        begin-seven l = ap (λ (t : Bool). begins true false t (freeRow x)) (sym (fits ∙ le-ltb r (h .r) l)) ∙ begun false k
+
+  module _ (r l : ℕ) where
+    pub turn-bad : not b ≡ true → Refuse 3 ≡ planTurn x r l (freePage x)
+    turn-bad g = ap (λ (a : Bool). turns a (ltb r (head x .r)) (ltb (freePage x) (head x .p)) r l (freePage x)) (sym (head-is ∙ not-true b g))
+
+    module _ (g : not b ≡ false) where
+      there : (o : Bool) → ltb r (h .r) ≡ o → turns true o (ltb (freePage x) (head x .p)) r l (freePage x) ≡ planTurn x r l (freePage x)
+      there o k =
+          ap₂ (λ (i j : Bool). turns i j (ltb (freePage x) (head x .p)) r l (freePage x)) (sym (head-is ∙ not-false b g))
+          (sym (ap (λ (k : Header). ltb r (k .r)) (sym e) ∙ k))
+
+      pub turn-out : h .r ≤ r → Refuse 3 ≡ planTurn x r l (freePage x)
+      turn-out m = there false (le-ltb r (h .r) m)
+
+      module _ (m : r < h .r) (p : ℕ) (ep : p ≡ firstFree (λ (i : ℕ). getD (x .table) (16 + 2 * h .d + 3 * h .v + h .r + i) 0) 0 (h .p)) where
+        page-is : p ≡ freePage x
+        page-is = ep ∙ ap (λ (k : Header). firstFree (λ (i : ℕ). getD (x .table) (16 + 2 * k .d + 3 * k .v + k .r + i) 0) 0 (k .p)) e
+
+        fit : ltb (freePage x) (head x .p) ≡ ltb p (h .p)
+        fit = ap₂ (λ (i : ℕ) (k : Header). ltb i (k .p)) (sym page-is) (sym e)
+
+        pub turn-page : p < h .p → Turn r l p ≡ planTurn x r l (freePage x)
+        turn-page i =
+            ap (Turn r l) page-is
+            ∙ ap (λ (t : Bool). turns true true t r l (freePage x)) (sym (fit ∙ lt-ltb p (h .p) i))
+            ∙ there true (lt-ltb r (h .r) m)
+
+        pub turn-eight : h .p ≤ p → Refuse 8 ≡ planTurn x r l (freePage x)
+        turn-eight i = ap (λ (t : Bool). turns true true t r l (freePage x)) (sym (fit ∙ le-ltb p (h .p) i)) ∙ there true (lt-ltb r (h .r) m)
+
+-- where the owners begin
+pub owners-at : (h : Header) → InRange h → (16 + 2 * h .d + 3 * h .v ≤ 1048576) × (16 + 2 * h .d + 3 * h .v + h .r ≤ 1048576) × (h .r ≤ 65536) × (h .p ≤ 65536)
+owners-at h i = (omega arith, omega arith, i .r-high, i .p-high)
+
+-- ---- into a row, into a page
+
+module _ (x : Mem) (w a n l o : ℕ) (p : Place) (e : p ≡ spotIn (take (a + n - a) (drop a (x .rows))) l o) where
+  row-way : (q : Place) → p ≡ q → planRow x w a n l q ≡ planRow x w a n l (spotIn (take n (drop a (x .rows))) l o)
+  row-way q f = ap (planRow x w a n l) (sym f ∙ (e ∙ ap (λ (k : ℕ). spotIn (take k (drop a (x .rows))) l o) (span a n)))
+
+  pub row-known : (i : ℕ) → p ≡ Found i → Known ≡ planRow x w a n l (spotIn (take n (drop a (x .rows))) l o)
+  row-known i f = row-way (Found i) f
+
+  module _ (k : ℕ) (f : p ≡ Free k) where
+    pub row-enter : l < n → Enter a n l k w ≡ planRow x w a n l (spotIn (take n (drop a (x .rows))) l o)
+    row-enter m = ap (λ (b : Bool). cond b (Enter a n l k w) (planTurn x ((w - 1) / 2048) l (freePage x))) (sym (lt-ltb l n m)) ∙ row-way (Free k) f
+
+    pub row-turn : n ≤ l → (q : Plan) → q ≡ planTurn x ((w - 1) / 2048) l (freePage x) → q ≡ planRow x w a n l (spotIn (take n (drop a (x .rows))) l o)
+    row-turn m q g = g ∙ (ap (λ (b : Bool). cond b (Enter a n l k w) (planTurn x ((w - 1) / 2048) l (freePage x))) (sym (le-ltb l n m)) ∙ row-way (Free k) f)
+
+module _ (pages : List ℕ) (a n o : ℕ) (b : Bool) (e : b ≡ isSet (take (a + n - a) (drop a pages)) o) where
+  page-way : cond b Known (Mark a n) ≡ cond (isSet (take n (drop a pages)) o) Known (Mark a n)
+  page-way = ap (λ (t : Bool). cond t Known (Mark a n)) (e ∙ ap (λ (k : ℕ). isSet (take k (drop a pages)) o) (span a n))
+
+  pub page-known : b ≡ true → Known ≡ cond (isSet (take n (drop a pages)) o) Known (Mark a n)
+  page-known f = ap (λ (t : Bool). cond t Known (Mark a n)) (sym f) ∙ page-way
+
+  pub page-mark : b ≡ false → Mark a n ≡ cond (isSet (take n (drop a pages)) o) Known (Mark a n)
+  page-mark f = ap (λ (t : Bool). cond t Known (Mark a n)) (sym f) ∙ page-way
+
+-- ---- by the chunk's word
+
+module _ (x : Mem) (c o : ℕ) where
+  pub word-bad : word.Bad ≡ wordIn (x .table) c → Refuse 3 ≡ planWord x c o (wordIn (x .table) c)
+  word-bad e = ap (planWord x c o) e
+
+  pub prepared-bad : word.Bad ≡ wordIn (x .table) c → Refuse 3 ≡ preparedSpot x o (spotIf x (wordIn (x .table) c))
+  prepared-bad e = ap (λ (w : Word). preparedSpot x o (spotIf x w)) e
+
+  module _ (w : ℕ) (e : word.Is w ≡ wordIn (x .table) c) (q : Spot) (f : q ≡ spotBy x w) where
+    pub word-spot : planSpot x c o w q ≡ planWord x c o (wordIn (x .table) c)
+    word-spot = ap (planSpot x c o w) f ∙ ap (planWord x c o) e
+
+    pub prepared-spot : preparedSpot x o q ≡ preparedSpot x o (spotIf x (wordIn (x .table) c))
+    prepared-spot = ap (preparedSpot x o) (f ∙ ap (spotIf x) e)
+
+-- the part, where s and m are the table's
+pub spot-by : (x : Mem) (s m w : ℕ) (q p : Spot) → s ≡ getD (x .table) 0 0 → m ≡ getD (x .table) 1 0 → q ≡ spotOf s m (length (x .pages)) (length (x .rows)) w → q ≡ p → p ≡ spotBy x w
+spot-by x s m w q p es em f g = sym g ∙ (f ∙ ap₂ (λ (i j : ℕ). spotOf i j (length (x .pages)) (length (x .rows)) w) es em)

@@ -1,0 +1,170 @@
+-- Every plan that is made can be carried out: the parts that it writes lie inside the slices. Assumes nothing.
+use mathlib.Core.Path.{_≡_, refl, sym, _∙_, ap}
+use mathlib.Core.List.{List}
+use mathlib.Core.Bool.{Bool, true, false, cond, _&&_}
+use Prim.Native.Nat.{ℕ, _+_, _-_, _*_, _/_, _^_, _≤_, _<_}
+use native.Mathlib.Omega.{arith}
+use lib.Dec.{leb, ltb}
+use lib.ListN.{length, getD, take, drop}
+use borrow.Author.Tests.{leb-true, ltb-true, le-ltb}
+use Rattle.numbers.proofs.Powers.{powers}
+use Rattle.sums.proofs.Rules.{both}
+use Rattle.sparse.specs.Search.{spotIn}
+use Rattle.sparse.specs.declared.Place.{Place}
+use Rattle.sparse.specs.declared.Place.the-variants.{Found, Free}
+use Rattle.sparse.proofs.Searches.{placeOf, spot-le}
+use Rattle.dense.specs.Bits.{isSet}
+use Rattle.layout.specs.Mem.{Mem}
+use Rattle.layout.specs.Sizes.{head, overCount}
+use Rattle.layout.specs.Short.{directWord, overflowWord, overWord, overPlace, wordIn}
+use Rattle.layout.specs.Tests.{headIs}
+use Rattle.layout.proofs.Tests.{HeadIs, head-of}
+use Rattle.layout.specs.declared.find.Word.{Word}
+use Rattle.layout.specs.declared.find.Word.the-variants as word
+use Rattle.layout.specs.declared.find.Spot.{Spot}
+use Rattle.layout.specs.declared.find.Spot.the-variants.{Nowhere, Row, Page, Bad}
+use Rattle.calls.specs.Reading.{spotBy, spotIf}
+use Rattle.calls.specs.Insert.{freeRow, freePage, planBegin, planTurn, planRow, planSpot, planWord, preparedSpot}
+use Rattle.calls.specs.declared.plan.Plan.{Plan}
+use Rattle.calls.specs.declared.plan.Plan.the-variants.{Refuse, Known, Mark, Enter, Begin, Turn}
+use Rattle.idset.proofs.Spots.{InRows, InPages, spot-row, spot-page, spot-sparse}
+use Rattle.inserts.specs.Ready.{Reached, Ready}
+
+-- ---- a word that was found
+
+found-if : (b : Bool) (u w : ℕ) → cond b (word.Is u) word.Bad ≡ word.Is w → b ≡ true
+found-if true u w e = refl
+found-if false u w e = absurd (let z : _≡_ {A = ℕ} 0 1 = cc in omega arith)
+
+module _ (t : List ℕ) (c w : ℕ) (e : word.Is w ≡ wordIn t c) where
+  over-found : getD t 2 0 ≤ c → overflowWord t (getD t 2 0) c ≡ word.Is w
+  unfolding wordIn
+  over-found l = ap (λ (b : Bool). cond b (directWord t c) (overflowWord t (getD t 2 0) c)) (sym (le-ltb c (getD t 2 0) l)) ∙ sym e
+
+  pub over-small : getD t 2 0 ≤ c → (getD t 2 0 ≤ 262144) × (overCount t ≤ 65536)
+  over-small l =
+      let d = getD t 2 0 in
+      let n = overCount t in
+      let g = found-if (leb d 262144 && leb n 65536 && leb (16 + 2 * d + 3 * n) (length t)) (overWord t (16 + 2 * d) n c (overPlace t (16 + 2 * d) n c)) w (over-found l) in
+      let h = both (leb d 262144 && leb n 65536) (leb (16 + 2 * d + 3 * n) (length t)) g in
+      let k = both (leb d 262144) (leb n 65536) (h .0) in
+      (leb-true d 262144 (k .0), leb-true n 65536 (k .1))
+
+-- ---- one plan
+
+module _ (x : Mem) (c o s : ℕ) (es : s ≡ getD (x .table) 0 0) (low : 9 ≤ s) (high : s ≤ 25) (chunk : c < 2 ^ 62) (within : o < 2 ^ s) where
+  offset-small : o < 2 ^ 32
+  offset-small = omega (arith, powers s low high .most)
+
+  top-is : 2 ^ s ≡ 2 ^ getD (x .table) 0 0
+  top-is = ap (λ (k : ℕ). 2 ^ k) es
+
+  offset-bit : (n : ℕ) → n ≡ 2 ^ (getD (x .table) 0 0 - 6) → o < 64 * n
+  offset-bit n e =
+      let f : n ≡ 2 ^ (s - 6) = e ∙ ap (λ (k : ℕ). 2 ^ (k - 6)) (sym es) in
+      omega (arith, powers s low high .words)
+
+  ready-page : (a n : ℕ) → InPages (getD (x .table) 0 0) (length (x .pages)) a n → (b : Bool) → Ready (x .pages) (x .rows) (x .table) c o (cond b Known (Mark a n))
+  ready-page a n i true = tt
+  ready-page a n i false = record { inside = i .inside; bit = offset-bit n (i .wide) }
+
+  -- what is asked where a part is looked at
+  pub page-ready : (w a n : ℕ) → Page a n ≡ spotBy x w → (a + n ≤ length (x .pages)) × (o < 64 * n)
+  page-ready w a n f =
+      let i = spot-page (getD (x .table) 0 0) (getD (x .table) 1 0) (length (x .pages)) (length (x .rows)) w a n (sym f) in
+      (i .inside, offset-bit n (i .wide))
+
+  pub row-ready : (w a n l : ℕ) → Row a n l ≡ spotBy x w → (a + n ≤ length (x .rows)) × (l ≤ n) × (o < 2 ^ 32) × (1 ≤ w)
+  row-ready w a n l f =
+      let i = spot-row (getD (x .table) 0 0) (getD (x .table) 1 0) (length (x .pages)) (length (x .rows)) w a n l (sym f) in
+      (i .inside, i .short, offset-small, spot-sparse (getD (x .table) 0 0) (getD (x .table) 1 0) (length (x .pages)) (length (x .rows)) w a n l (sym f) .0)
+
+  begin-if : (a f t : Bool) → headIs (head x) x ≡ a → ltb (freeRow x) (head x .r) ≡ t → Ready (x .pages) (x .rows) (x .table) c o (cond a (cond f (Refuse 6) (cond t (Begin (freeRow x)) (Refuse 7))) (Refuse 3))
+  begin-if false f t p q = tt
+  begin-if true true t p q = tt
+  begin-if true false false p q = tt
+  begin-if true false true p q =
+      let h = head-of (head x) x .sound p in
+      let v = h .sizes .v-high in
+      let n = h .over-fits in
+      record {
+        sizes = h .sizes;
+        row = ltb-true (freeRow x) (head x .r) q;
+        in-rows = h .room .in-rows;
+        over = omega arith;
+        chunk = chunk;
+        offset = offset-small;
+      }
+
+  ready-begin : Ready (x .pages) (x .rows) (x .table) c o (planBegin x c (freeRow x))
+  ready-begin = begin-if (headIs (head x) x) (leb (head x .d) c && leb (head x .v) (overCount (x .table))) (ltb (freeRow x) (head x .r)) refl refl
+
+  turn-if : (r l : ℕ) → l ≤ head x .m → (a t : Bool) → (headIs (head x) x && ltb r (head x .r)) ≡ a → ltb (freePage x) (head x .p) ≡ t → Ready (x .pages) (x .rows) (x .table) c o (cond a (cond t (Turn r l (freePage x)) (Refuse 8)) (Refuse 3))
+  turn-if r l m false t p q = tt
+  turn-if r l m true false p q = tt
+  turn-if r l m true true p q =
+      let g = both (headIs (head x) x) (ltb r (head x .r)) p in
+      let h = head-of (head x) x .sound (g .0) in
+      let v = h .sizes .v-high in
+      let n = h .over-fits in
+      record {
+        sizes = h .sizes;
+        row = ltb-true r (head x .r) (g .1);
+        page = ltb-true (freePage x) (head x .p) q;
+        in-rows = h .room .in-rows;
+        in-pages = h .room .in-pages;
+        members = m;
+        over = omega arith;
+        chunk = chunk;
+        offset = omega (arith, top-is);
+      }
+
+  ready-turn : (r l : ℕ) → l ≤ head x .m → Ready (x .pages) (x .rows) (x .table) c o (planTurn x r l (freePage x))
+  ready-turn r l m = turn-if r l m (headIs (head x) x && ltb r (head x .r)) (ltb (freePage x) (head x .p)) refl refl
+
+  module _ (w : ℕ) (e : word.Is w ≡ wordIn (x .table) c) where
+    reached : Reached (x .table) c
+    reached = record { chunk = chunk; over = over-small (x .table) c w e }
+
+    module _ (a n l : ℕ) (i : InRows (getD (x .table) 1 0) (length (x .rows)) a n l) (u : w < 268435456) where
+      enter-if : (k : ℕ) → k ≤ l → (b : Bool) → ltb l n ≡ b → Ready (x .pages) (x .rows) (x .table) c o (cond b (Enter a n l k w) (planTurn x ((w - 1) / 2048) l (freePage x)))
+      enter-if k m true q =
+          record { inside = i .inside; place = m; room = ltb-true l n q; offset = offset-small; word = omega arith; reached = reached }
+      enter-if k m false q = let p = i .short in let z = i .wide in ready-turn ((w - 1) / 2048) l (omega arith)
+
+      ready-row : (p : Place) → placeOf p ≤ l → Ready (x .pages) (x .rows) (x .table) c o (planRow x w a n l p)
+      ready-row (Found k) m = tt
+      ready-row (Free k) m = enter-if k m (ltb l n) refl
+
+    ready-spot : (q : Spot) → spotBy x w ≡ q → Ready (x .pages) (x .rows) (x .table) c o (planSpot x c o w q)
+    ready-spot Nowhere f = ready-begin
+    ready-spot (Row a n l) f =
+        ready-row a n l (spot-row (getD (x .table) 0 0) (getD (x .table) 1 0) (length (x .pages)) (length (x .rows)) w a n l f)
+        (spot-sparse (getD (x .table) 0 0) (getD (x .table) 1 0) (length (x .pages)) (length (x .rows)) w a n l f .1)
+        (spotIn (take n (drop a (x .rows))) l o) (spot-le (take n (drop a (x .rows))) l o)
+    ready-spot (Page a n) f =
+        ready-page a n (spot-page (getD (x .table) 0 0) (getD (x .table) 1 0) (length (x .pages)) (length (x .rows)) w a n f) (isSet (take n (drop a (x .pages))) o)
+    ready-spot Bad f = tt
+
+  ready-word : (v : Word) → v ≡ wordIn (x .table) c → Ready (x .pages) (x .rows) (x .table) c o (planWord x c o v)
+  ready-word (word.Is w) e = ready-spot w e (spotBy x w) refl
+  ready-word word.Bad e = tt
+
+  -- the plan of `set_if_new`
+  pub ready-plan : Ready (x .pages) (x .rows) (x .table) c o (planWord x c o (wordIn (x .table) c))
+  ready-plan = ready-word (wordIn (x .table) c) refl
+
+  prepared-if : (q : Spot) (w : ℕ) → spotBy x w ≡ q → Ready (x .pages) (x .rows) (x .table) c o (preparedSpot x o q)
+  prepared-if Nowhere w f = tt
+  prepared-if (Row a n l) w f = tt
+  prepared-if (Page a n) w f =
+      ready-page a n (spot-page (getD (x .table) 0 0) (getD (x .table) 1 0) (length (x .pages)) (length (x .rows)) w a n f) (isSet (take n (drop a (x .pages))) o)
+  prepared-if Bad w f = tt
+
+  prepared-word : (v : Word) → Ready (x .pages) (x .rows) (x .table) c o (preparedSpot x o (spotIf x v))
+  prepared-word (word.Is w) = prepared-if (spotBy x w) w refl
+  prepared-word word.Bad = tt
+
+  -- the plan of the prepared insert
+  pub ready-prepared : Ready (x .pages) (x .rows) (x .table) c o (preparedSpot x o (spotIf x (wordIn (x .table) c)))
+  ready-prepared = prepared-word (wordIn (x .table) c)

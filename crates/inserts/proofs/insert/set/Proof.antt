@@ -1,0 +1,69 @@
+-- The answer of `set_if_new`, without whether the id was new. Assumes nothing.
+use mathlib.Core.Path.{_∙_}
+use Rattle.numbers.proofs.Signs.{hop}
+use Rattle.layout.specs.Mem.{Mem, memOf}
+use Rattle.calls.specs.Insert.{insertBy}
+use Rattle.inserts.proofs.Gates.{set-drops}
+use borrow.Author.Needs.{needs}
+use Rattle.inserts.proofs.insert.set.Statement.{statement}
+use Rattle.inserts.proofs.insert.set.Tie as tie
+
+abbrev memory : tie.Start → Mem
+memory c = memOf (c .args .pages) (c .args .rows) (c .args .blocks) (c .args .table)
+
+set-if-new-requires : tie.Need-set-if-new-requires
+set-if-new-requires c κs = search needs
+
+enum-told : tie.Need-enum-told
+enum-told c = search needs
+
+enum-known-n : tie.Need-enum-known-n
+enum-known-n c = search needs
+
+same-length : tie.Need-same-length
+same-length c = search needs
+
+same-length-2 : tie.Need-same-length-2
+same-length-2 c = search needs
+
+same-length-3 : tie.Need-same-length-3
+same-length-3 c = search needs
+
+same-length-4 : tie.Need-same-length-4
+same-length-4 c = search needs
+
+returns : tie.Need-returns
+returns c = let a = c .before .before .before .before .before .before .before .before .before .before .before .before .before .before .before .before .before .before .before in set-drops _ _ _ _ (c .enum-told .given .1) (c .before .before .before .before .before .before .before .before .before .before .set-if-new .ensures ∙ hop (insertBy (memory a)) (a .args .id) (a .fits .id))
+
+same-length-5 : tie.Need-same-length-5
+same-length-5 c = search needs
+
+same-length-6 : tie.Need-same-length-6
+same-length-6 c = search needs
+
+same-length-7 : tie.Need-same-length-7
+same-length-7 c = search needs
+
+same-length-8 : tie.Need-same-length-8
+same-length-8 c = search needs
+
+returns-2 : tie.Need-returns-2
+returns-2 c = let a = c .before .before .before .before .before .before .before .before .before .before .before .before .before .before .before .before .before .before .before .before in set-drops _ _ _ _ (c .before .n .given .1) (c .before .before .before .before .before .before .before .before .before .before .before .set-if-new .ensures ∙ hop (insertBy (memory a)) (a .args .id) (a .fits .id))
+
+pub set-spec : {M : Type 1} → statement M
+set-spec =
+    tie.close
+    (tie.spec
+    set-if-new-requires
+    enum-told
+    enum-known-n
+    same-length
+    same-length-2
+    same-length-3
+    same-length-4
+    returns
+    same-length-5
+    same-length-6
+    same-length-7
+    same-length-8
+    returns-2)

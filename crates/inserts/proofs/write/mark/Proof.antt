@@ -1,0 +1,45 @@
+-- The part, put back. Assumes nothing.
+use mathlib.Core.List.{List}
+use Prim.Native.Nat.{ℕ}
+use Rattle.dense.specs.Bits.{withBit}
+use Rattle.inserts.proofs.Acts.{put-is}
+use borrow.Author.Needs.{needs}
+use Rattle.inserts.proofs.write.mark.Statement.{statement}
+use Rattle.inserts.proofs.write.mark.Tie as tie
+
+add-e : tie.Need-add-e
+add-e c = search needs
+
+mul-insert : tie.Need-mul-insert
+mul-insert c = search needs
+
+sub-insert : tie.Need-sub-insert
+sub-insert c = search needs
+
+part-insert-start : tie.Need-part-insert-start
+part-insert-start c = search needs
+
+part-insert-end : tie.Need-part-insert-end
+part-insert-end c = search needs
+
+insert-requires : tie.Need-insert-requires
+insert-requires c κs = search needs
+
+same-length : tie.Need-same-length
+same-length c = search needs
+
+returns : tie.Need-returns
+returns c = let a = c .before .before .before .before .before .args in put-is (a .pages .now) (a .a) (a .n) (λ (w : List ℕ). withBit w (a .o)) _ (c .before .before .insert .ensures .1)
+
+pub mark-spec : {M : Type 1} → statement M
+mark-spec =
+    tie.close
+    (tie.spec
+    add-e
+    mul-insert
+    sub-insert
+    part-insert-start
+    part-insert-end
+    insert-requires
+    same-length
+    returns)

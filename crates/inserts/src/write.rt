@@ -1,0 +1,158 @@
+// What a plan writes, a function for each slice or two.
+ghost use mathlib.Core.Path.{_≡_};
+ghost use mathlib.Core.List.{List};
+ghost use Prim.Native.Nat.{ℕ, _+_, _*_, _^_, _≤_, _<_};
+ghost use lib.ListN.{length, getD, take, drop, replicate};
+ghost use Rattle.sparse.specs.Edit.{insertedAt};
+ghost use Rattle.dense.specs.Bits.{withBit, withRow};
+ghost use Rattle.layout.specs.Mem.{mem};
+ghost use Rattle.layout.specs.Sizes.{InRange, top, wide, headerAt, overCount};
+ghost use Rattle.layout.specs.Places.{encoded, rowPart, pagePart};
+ghost use Rattle.layout.specs.declared.place.Place.the-variants.{Sparse, Dense};
+ghost use Rattle.steps.specs.Writes.{putPart, putWord, putRowOwner, putPageOwner, putRow};
+ghost use Rattle.calls.specs.Insert.{answerOf, actBy, told};
+ghost use Rattle.inserts.specs.Ready.{Ready};
+use calls::plan::Plan;
+use layout::answer::Truth;
+use layout::head;
+use layout::head::Header;
+use layout::place;
+use numbers::place as element;
+use numbers::power;
+use steps::write;
+
+// A bit of a page of n words from a on.
+pub fn mark(pages: &mut [u64], a: usize, n: usize, o: u64)
+    requires { ⌜ (a + n ≤ length (now pages)) × (o < 64 * n) ⌝ }
+    ensures { λ _. ⌜ now (pages .exit) ≡ putPart (now (pages .entry)) a n (withBit (take n (drop a (now (pages .entry)))) o) ⌝ }
+{
+    let e = a + n;
+    dense::insert(&mut pages[a..e], o);
+}
+
+// Chunk c's word: one write for a direct entry.
+pub fn put_word(table: &mut [u64], c: u64, w: u64)
+    requires { ⌜ (c < 2 ^ 62) × (getD (now table) 2 0 ≤ c → (getD (now table) 2 0 ≤ 262144) × (overCount (now table) ≤ 65536)) ⌝ }
+    ensures { λ _. ⌜ now (table .exit) ≡ putWord (headerAt (now (table .entry))) (now (table .entry)) c w ⌝ }
+{
+    if c < element::at(table, 2) {
+        element::put(table, 16 + 2 * c, w);
+        return;
+    }
+    let h = head::read(table);
+    write::put_word(table, h, c, w);
+}
+
+// An offset more in a row of n places from a on with l members: its place is k, the chunk's word w.
+pub fn enter(
+    rows: &mut [u32],
+    table: &mut [u64],
+    c: u64,
+    o: u64,
+    a: usize,
+    n: usize,
+    l: usize,
+    k: usize,
+    w: u64,
+)
+    requires { ⌜ (a + n ≤ length (now rows)) × (k ≤ l) × (l < n) × (o < 2 ^ 32) × (w < 2 ^ 28) × (c < 2 ^ 62) × (getD (now table) 2 0 ≤ c → (getD (now table) 2 0 ≤ 262144) × (overCount (now table) ≤ 65536)) ⌝ }
+    ensures { λ _. ⌜ (now (rows .exit) ≡ putPart (now (rows .entry)) a n (insertedAt (take n (drop a (now (rows .entry)))) l k o)) × (now (table .exit) ≡ putWord (headerAt (now (table .entry))) (now (table .entry)) c (w + 1)) ⌝ }
+{
+    let e = a + n;
+    sparse::insert_at(&mut rows[a..e], l, k, o as u32);
+    put_word(table, c, w + 1);
+}
+
+// A free row r with one offset.
+pub fn begin_row(rows: &mut [u32], h: Header, r: u64, o: u64)
+    requires { ⌜ InRange h × (r < h .r) × (h .r * h .m ≤ length (now rows)) × (o < 2 ^ 32) ⌝ }
+    ensures { λ _. ⌜ now (rows .exit) ≡ putRow h (now (rows .entry)) r (insertedAt (rowPart h (now (rows .entry)) r) 0 0 o) ⌝ }
+{
+    let a = head::row_at(h, r) as usize;
+    let e = a + h.m as usize;
+    sparse::insert_at(&mut rows[a..e], 0, 0, o as u32);
+}
+
+// Chunk c stands in row r with one member.
+pub fn begin_entry(table: &mut [u64], h: Header, c: u64, r: u64)
+    requires { ⌜ InRange h × (r < h .r) × (overCount (now table) ≤ 65536) × (c < 2 ^ 62) ⌝ }
+    ensures { λ _. ⌜ now (table .exit) ≡ putRowOwner h (putWord h (now (table .entry)) c (encoded (Sparse r 1))) r (c + 1) ⌝ }
+{
+    write::put_word(table, h, c, place::row_word(r, 1));
+    write::put_row_owner(table, h, r, c + 1);
+}
+
+// Words with the bits of a row's first l offsets and of offset o.
+pub fn fill(words: &mut [u64], row: &[u32], l: usize, s: u64, o: u64)
+    requires { ⌜ (l ≤ length (now row)) × (s < 64) × (2 ^ s ≤ 64 * length (now words)) × (o < 64 * length (now words)) ⌝ }
+    ensures { λ _. ⌜ now (words .exit) ≡ withBit (withRow (now (words .entry)) 0 (now (row .entry)) (2 ^ s) l) o ⌝ }
+{
+    dense::write_row(words, row, l, s);
+    dense::insert(words, o);
+}
+
+// Page p gets the l members of row r and offset o.
+pub fn turn_page(pages: &mut [u64], rows: &[u32], h: Header, r: u64, l: usize, p: u64, o: u64)
+    requires { ⌜ InRange h × (r < h .r) × (p < h .p) × (h .r * h .m ≤ length (now rows)) × (h .p * wide h ≤ length (now pages)) × (l ≤ h .m) × (o < top h) ⌝ }
+    ensures { λ _. ⌜ now (pages .exit) ≡ putPart (now (pages .entry)) (p * wide h) (wide h) (withBit (withRow (pagePart h (now (pages .entry)) p) 0 (rowPart h (now (rows .entry)) r) (top h) l) o) ⌝ }
+{
+    let s = h.s;
+    let a = head::row_at(h, r) as usize;
+    let e = a + h.m as usize;
+    let b = head::page_at(h, p) as usize;
+    let f = b + power::pow2(s - 6) as usize;
+    fill(&mut pages[b..f], &rows[a..e], l, s, o);
+}
+
+// Row r is free again: filled with zeros.
+pub fn free_row(rows: &mut [u32], h: Header, r: u64)
+    requires { ⌜ InRange h × (r < h .r) × (h .r * h .m ≤ length (now rows)) ⌝ }
+    ensures { λ _. ⌜ now (rows .exit) ≡ putRow h (now (rows .entry)) r (replicate (h .m) 0) ⌝ }
+{
+    let m = h.m as usize;
+    let a = head::row_at(h, r) as usize;
+    let e = a + m;
+    sparse::clear(&mut rows[a..e], m);
+}
+
+// Chunk c stands in page p, and row r has no owner.
+pub fn turn_entry(table: &mut [u64], h: Header, c: u64, r: u64, p: u64)
+    requires { ⌜ InRange h × (r < h .r) × (p < h .p) × (overCount (now table) ≤ 65536) × (c < 2 ^ 62) ⌝ }
+    ensures { λ _. ⌜ now (table .exit) ≡ putPageOwner h (putRowOwner h (putWord h (now (table .entry)) c (encoded (Dense p))) r 0) p (c + 1) ⌝ }
+{
+    write::put_word(table, h, c, place::page_word(p));
+    write::put_row_owner(table, h, r, 0);
+    write::put_page_owner(table, h, p, c + 1);
+}
+
+// What the plan says, of chunk c and offset o, whatever the block counts are.
+pub fn act(pages: &mut [u64], rows: &mut [u32], table: &mut [u64], c: u64, o: u64, q: Plan) -> Truth
+    requires { ⌜ Ready (now pages) (now rows) (now table) c o q ⌝ }
+    ensures { λ r. ⌜ ((b : List ℕ) → told r (mem (now (pages .exit)) (now (rows .exit)) b (now (table .exit))) ≡ told (answerOf q) (actBy (mem (now (pages .entry)) (now (rows .entry)) b (now (table .entry))) c o q)) ⌝ }
+{
+    match q {
+        Plan::Refuse(n) => Truth::Refused(n),
+        Plan::Known => Truth::Is(false),
+        Plan::Mark(a, n) => {
+            mark(pages, a, n, o);
+            Truth::Is(true)
+        }
+        Plan::Enter(a, n, l, k, w) => {
+            enter(rows, table, c, o, a, n, l, k, w);
+            Truth::Is(true)
+        }
+        Plan::Begin(r) => {
+            let h = head::read(table);
+            begin_row(rows, h, r, o);
+            begin_entry(table, h, c, r);
+            Truth::Is(true)
+        }
+        Plan::Turn(r, l, p) => {
+            let h = head::read(table);
+            turn_page(pages, rows, h, r, l, p, o);
+            free_row(rows, h, r);
+            turn_entry(table, h, c, r, p);
+            Truth::Is(true)
+        }
+    }
+}
