@@ -1,11 +1,15 @@
 -- Demand 2 of document 01, for every history of calls on memory that set-up made; what a customer reads. Assumes nothing.
-use mathlib.Core.Path.{_≡_, ap, subst, _∙_}
-use mathlib.Core.Bool.{false}
-use Prim.Native.Nat.{ℕ}
+use mathlib.Core.Path.{_≡_, sym, ap, subst, _∙_}
+use mathlib.Core.Bool.{Bool, true, false, cond}
+use Prim.Native.Nat.{ℕ, _<_}
+use lib.IntN.{pos}
+use Rattle.sums.specs.Ids.{count, total, rank}
+use Rattle.sums.proofs.Ranks.{nth-member, nth-one}
 use Rattle.layout.specs.Mem.{Mem}
+use Rattle.layout.specs.declared.answer.Amount.the-variants as amount
 use Rattle.calls.specs.Promise.{State}
-use Rattle.promises.specs.Calls.{Call, rank-up, leave, Fitting, Said, Refuses, said, left}
-use Rattle.promises.specs.Asks.{Ask, asked}
+use Rattle.promises.specs.Calls.{Call, rank-up, leave, Fitting, Said, many, Refuses, said, left}
+use Rattle.promises.specs.Asks.{Ask, rank-of, asked}
 use Rattle.promises.specs.Stories.{Story, then, Told, described, reached, Kept, Reads}
 use Rattle.promises.specs.Outcomes.{Public, Allowed}
 use Rattle.promises.specs.Cases.{AllSay, table}
@@ -38,6 +42,22 @@ refused-stays = refusal-stays
 -- ranking an open set and leaving the ranked form reaches the same memory
 pub ranked-and-left : (s : Story) → Told s → described s .mode ≡ false → reached (then (then s rank-up) leave) ≡ reached s
 ranked-and-left s t o = let k = kept s t in up-and-back (k .follows) (ap (λ (q : State). q .mode) (k .state) ∙ o)
+
+-- in a ranked set the k-th member in rising order, counted from 0, has rank k, and no other member has
+pub nth : (s : Story) → Told s → described s .mode ≡ true → (k : ℕ) → k < total (described s .members) →
+    (n : ℕ) × (described s .members n ≡ true) × (asked (reached s) (rank-of (pos n)) ≡ many (amount.Of k))
+    × ((m : ℕ) → described s .members m ≡ true → rank (described s .members) (pos m) ≡ k → m ≡ n)
+unfolding rank
+nth s t o k l =
+    let P = described s .members in
+    let w = nth-member P k l in
+    let n = w .0 in
+    let e : count P n ≡ k = w .3 in (
+      n,
+      w .2,
+      reads s t .answers (rank-of (pos n)) ∙ ap (λ (b : Bool). many (cond b (amount.Of (count P n)) (amount.Refused 5))) o ∙ ap (λ (j : ℕ). many (amount.Of j)) e,
+      λ m p q. nth-one P m n p (w .2) (q ∙ sym e),
+    )
 
 -- memory before fixes answer and memory after
 pub unique : (x : Mem) (c : Public) (a b : Said) (y z : Mem) → Allowed x c a y → Allowed x c b z → (a ≡ b) × (y ≡ z)
