@@ -5,4 +5,5 @@ pub mod Refusals
 pub mod Outcomes
 pub mod Returns
 pub mod Cases
+pub mod Plans
 pub mod Theorems

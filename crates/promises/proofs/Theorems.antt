@@ -1,8 +1,9 @@
--- Demand 2 of document 01, for every history of calls on memory that set-up made; what a customer reads. Assumes nothing.
+-- Demands 2 and 3 of document 01, for every history of calls on memory that set-up made; what a customer reads. Assumes nothing.
 use mathlib.Core.Path.{_≡_, sym, ap, subst, _∙_}
 use mathlib.Core.Bool.{Bool, true, false, cond}
 use Prim.Native.Nat.{ℕ, _<_}
-use lib.IntN.{pos}
+use mathlib.Core.List.{List}
+use lib.IntN.{ℤ, pos}
 use Rattle.sums.specs.Ids.{count, total, rank}
 use Rattle.sums.proofs.Ranks.{nth-member, nth-one}
 use Rattle.layout.specs.Mem.{Mem}
@@ -13,12 +14,14 @@ use Rattle.promises.specs.Asks.{Ask, rank-of, asked}
 use Rattle.promises.specs.Stories.{Story, then, Told, described, reached, Kept, Reads}
 use Rattle.promises.specs.Outcomes.{Public, Allowed}
 use Rattle.promises.specs.Cases.{AllSay, table}
+use Rattle.promises.specs.Plans.{Cuts}
 use Rattle.promises.proofs.Histories.{all-kept}
 use Rattle.promises.proofs.Answers.{kept-reads}
 use Rattle.promises.proofs.Refusals.{refusal-stays, answer-not-three, reply-not-three}
 use Rattle.promises.proofs.Outcomes.{allowed-once}
 use Rattle.promises.proofs.Returns.{up-and-back}
 use Rattle.promises.proofs.Cases.{table-says}
+use Rattle.promises.proofs.Plans.{cut-set}
 
 -- memory follows the layout and stands for the set that the accepted calls describe, and every answer was document 01's
 pub kept : (s : Story) → Told s → Kept s
@@ -58,6 +61,12 @@ nth s t o k l =
       reads s t .answers (rank-of (pos n)) ∙ ap (λ (b : Bool). many (cond b (amount.Of (count P n)) (amount.Refused 5))) o ∙ ap (λ (j : ℕ). many (amount.Of j)) e,
       λ m p q. nth-one P m n p (w .2) (q ∙ sym e),
     )
+
+-- demand 3, of a set that any history reaches and ranks, for every S and every room
+pub cuts : (s : Story) → Told s → described s .mode ≡ true → (S : ℕ) (bs : List ℤ) → Cuts (described s .members) (reached s) S bs
+cuts s t o S bs =
+    let k = kept s t in
+    subst (λ (q : State). Cuts (q .members) (reached s) S bs) (k .state) (cut-set (reached s) S bs (k .follows) (ap (λ (q : State). q .mode) (k .state) ∙ o))
 
 -- memory before fixes answer and memory after
 pub unique : (x : Mem) (c : Public) (a b : Said) (y z : Mem) → Allowed x c a y → Allowed x c b z → (a ≡ b) × (y ≡ z)

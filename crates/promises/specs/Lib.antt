@@ -3,3 +3,4 @@ pub mod Asks
 pub mod Stories
 pub mod Outcomes
 pub mod Cases
+pub mod Plans

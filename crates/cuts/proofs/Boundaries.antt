@@ -1,0 +1,48 @@
+-- A boundary fits an i64 on any memory; on memory that follows the layout it is the least id with its rank. Assumes nothing.
+use mathlib.Core.Path.{_≡_, ap, _∙_}
+use mathlib.Core.Bool.{Bool, true, cond}
+use Prim.Native.Nat.{ℕ, suc, _-_, _^_, _≤_, _<_}
+use native.Mathlib.Omega.{arith}
+use lib.IntN.{pos}
+use Rattle.sums.specs.Ids.{Ids, count, rank, total}
+use Rattle.sums.specs.Cuts.{Least}
+use Rattle.sums.proofs.Counts.{count-suc, count-mono, byte-le}
+use Rattle.layout.specs.Mem.{Mem}
+use Rattle.layout.specs.Meaning.{holds, ranked}
+use Rattle.layout.specs.Follows.{Follows}
+use Rattle.layout.specs.declared.answer.Amount.the-variants as amount
+use Rattle.ranks.specs.Promise.{rankAnswer}
+use Rattle.ranks.proofs.Ranks.{rank-is}
+use Rattle.cuts.specs.Plan.{narrowed, amountOf, rankOf, boundaryBy}
+use Rattle.cuts.proofs.Narrowing.{First, narrowed-below, narrowed-first}
+
+pub boundary-below : (x : Mem) (m : ℕ) → boundaryBy x m < 2 ^ 63
+unfolding boundaryBy
+boundary-below x m = let l = narrowed-below (rankOf x) m 0 (2 ^ 63 - 1) (omega arith) in omega arith
+
+-- short of the total, the largest i64 has rank enough
+total-within : (P : Ids) (m n : ℕ) → m < count P (suc n) → m ≤ count P n
+total-within P m n h = omega (arith, count-suc P n, byte-le (P n))
+
+enough-at-end : (P : Ids) (m : ℕ) → m < total P → m ≤ count P (2 ^ 63 - 1)
+unfolding total
+enough-at-end P m h = total-within P m (2 ^ 63 - 1) h
+
+-- ranks that count members: the first is the least
+first-least : (P : Ids) (f : ℕ → ℕ) (m y : ℕ) → ((n : ℕ) → f n ≡ count P n) → First f m y → Least P m y
+first-least P f m y e h = record { enough = (let a = h .enough in omega (arith, e y)); first = λ z l. h .first z (omega (arith, e z)) }
+
+module _ {x : Mem} (w : Follows x) (r : ranked x ≡ true) where
+  pub rank-count : (n : ℕ) → rankOf x n ≡ count (holds x) n
+  unfolding rankOf rankAnswer rank
+  rank-count n = ap amountOf (rank-is w (pos n)) ∙ ap (λ (b : Bool). amountOf (cond b (amount.Of (count (holds x) n)) (amount.Refused 5))) r
+
+  rank-mono : (a b : ℕ) → a ≤ b → rankOf x a ≤ rankOf x b
+  rank-mono a b l = let c = count-mono (holds x) a b l in omega (arith, rank-count a, rank-count b)
+
+  pub boundary-least : (m : ℕ) → m < total (holds x) → Least (holds x) m (boundaryBy x m)
+  unfolding boundaryBy
+  boundary-least m l =
+      let h = enough-at-end (holds x) m l in
+      first-least (holds x) (rankOf x) m (narrowed (rankOf x) m 0 (2 ^ 63 - 1)) rank-count
+      (narrowed-first (rankOf x) m rank-mono 0 (2 ^ 63 - 1) (omega arith) (omega (arith, rank-count (2 ^ 63 - 1))) (λ y q. absurd (omega arith)))

@@ -1,0 +1,141 @@
+-- The intervals and ranks of a plan are the parts of the set that it was made for. Assumes nothing.
+use mathlib.Core.Path.{_≡_, refl, sym, ap, ap₂, _∙_}
+use mathlib.Core.Bool.{Bool, true, false, cond, not, _&&_}
+use mathlib.Core.List.{List}
+use Prim.Native.Nat.{ℕ, zero, suc, _+_, _-_, _*_, _/_, _^_, _≤_, _<_, min, max}
+use native.Mathlib.Omega.{arith}
+use lib.IntN.{ℤ, pos, negsuc}
+use lib.ListN.{length, getD}
+use lib.Dec.{ltb}
+use borrow.Author.Tests.{ltb-true, ltb-false, lt-ltb, le-ltb, le-leb, eq-eqb, ne-eqb}
+use Rattle.sums.specs.Ids.{Ids, total}
+use Rattle.sums.specs.Cuts.{size, parts, Least, Interval, End, before, boundary, lowEnd, part, held}
+use Rattle.sums.proofs.Least.{least-one}
+use Rattle.sums.proofs.Parts.{boundary-is, high-last, high-next}
+use Rattle.sums.proofs.Held.{part-held}
+use Rattle.layout.specs.Mem.{Mem}
+use Rattle.layout.specs.Meaning.{holds, ranked}
+use Rattle.cuts.specs.Plan.{planOf}
+use Rattle.cuts.specs.Promise.{planAnswer, Plans}
+use Rattle.cuts.specs.Spans.{intervalOf, recordOk, planOk, lowAt, spanAt, idsBy, ranksBy}
+use Rattle.cuts.specs.declared.plan.Plan.{Plan}
+use Rattle.cuts.specs.declared.plan.Planning.the-variants.{Made, Refused}
+use Rattle.cuts.specs.declared.plan.Span.{Span}
+use Rattle.cuts.specs.declared.plan.Span.the-variants.{Between, From}
+use Rattle.cuts.specs.declared.plan.Spanned.{Spanned}
+use Rattle.cuts.specs.declared.plan.Spanned.the-variants as spanned
+use Rattle.cuts.specs.declared.plan.Ranks.{Ranks}
+use Rattle.cuts.specs.declared.plan.Ranks.the-variants as ranks
+
+abbrev interval : ℤ → End → Interval
+interval z h = record { low = z; high = h }
+
+-- ---- the ways through `ids` and `ranks`, for any record and any boundaries
+
+module _ (p : Plan) (bs : List ℤ) (k : ℕ) where
+  abbrev ids-at : Bool → Bool → Spanned
+  ids-at ok there = cond ok (cond there (spanned.Of (spanAt p bs k)) (spanned.Refused 12)) (spanned.Refused 3)
+
+  pub ids-bad : planOk p bs ≡ false → idsBy p bs k ≡ spanned.Refused 3
+  unfolding idsBy
+  ids-bad e = ap (λ (b : Bool). ids-at b (ltb k (p .partitions))) e
+
+  pub ids-none : planOk p bs ≡ true → p .partitions ≤ k → idsBy p bs k ≡ spanned.Refused 12
+  unfolding idsBy
+  ids-none e l = ap₂ ids-at e (le-ltb k (p .partitions) l)
+
+  pub ids-there : planOk p bs ≡ true → k < p .partitions → idsBy p bs k ≡ spanned.Of (spanAt p bs k)
+  unfolding idsBy
+  ids-there e l = ap₂ ids-at e (lt-ltb k (p .partitions) l)
+
+  abbrev span-at : Bool → Span
+  span-at b = cond b (Between (lowAt bs k) (getD bs k (pos 0))) (From (lowAt bs k))
+
+  pub span-between : k + 1 < p .partitions → spanAt p bs k ≡ Between (lowAt bs k) (getD bs k (pos 0))
+  span-between l = ap span-at (lt-ltb (k + 1) (p .partitions) l)
+
+  pub span-from : p .partitions ≤ k + 1 → spanAt p bs k ≡ From (lowAt bs k)
+  span-from l = ap span-at (le-ltb (k + 1) (p .partitions) l)
+
+module _ (p : Plan) (k : ℕ) where
+  abbrev ranks-at : Bool → Bool → Ranks
+  ranks-at ok there = cond ok (cond there (ranks.Of (k * p .slots) (min (p .slots) (p .total - k * p .slots))) (ranks.Refused 12)) (ranks.Refused 3)
+
+  pub ranks-bad : recordOk p ≡ false → ranksBy p k ≡ ranks.Refused 3
+  unfolding ranksBy
+  ranks-bad e = ap (λ (b : Bool). ranks-at b (ltb k (p .partitions))) e
+
+  pub ranks-none : recordOk p ≡ true → p .partitions ≤ k → ranksBy p k ≡ ranks.Refused 12
+  unfolding ranksBy
+  ranks-none e l = ap₂ ranks-at e (le-ltb k (p .partitions) l)
+
+  pub ranks-there : recordOk p ≡ true → k < p .partitions → ranksBy p k ≡ ranks.Of (k * p .slots) (min (p .slots) (p .total - k * p .slots))
+  unfolding ranksBy
+  ranks-there e l = ap₂ ranks-at e (lt-ltb k (p .partitions) l)
+
+pub low-first : (bs : List ℤ) (k : ℕ) → k ≡ 0 → lowAt bs k ≡ negsuc (2 ^ 63 - 1)
+low-first bs k e = ap (λ (b : Bool). cond b (negsuc (2 ^ 63 - 1)) (getD bs (k - 1) (pos 0))) (eq-eqb k 0 e)
+
+pub low-later : (bs : List ℤ) (k : ℕ) → 0 < k → lowAt bs k ≡ getD bs (k - 1) (pos 0)
+low-later bs k l = ap (λ (b : Bool). cond b (negsuc (2 ^ 63 - 1)) (getD bs (k - 1) (pos 0))) (ne-eqb k 0 (λ e. omega arith))
+
+-- ---- a plan that was made
+
+size-size : (S : ℕ) → size (size S) ≡ size S
+size-size S = omega arith
+
+parts-size : (t S : ℕ) → parts t (size S) ≡ parts t S
+parts-size t S = ap (λ (s : ℕ). max 1 ((t + (s - 1)) / s)) (size-size S)
+
+pub record-ok : (t S : ℕ) → recordOk (planOf t S) ≡ true
+record-ok t S = ap₂ (λ (a b : Bool). not a && b) (ne-eqb (size S) 0 (λ e. omega arith)) (eq-eqb (parts t S) (parts t (size S)) (sym (parts-size t S)))
+
+-- the boundaries are those of the plain set
+pub record Bounded (P : Ids) (S : ℕ) (cs : List ℤ) : Type 0 where
+  pub enough : parts (total P) S - 1 ≤ length cs
+  pub least : (k : ℕ) → suc k < parts (total P) S → (b : ℕ) × (getD cs k (pos 0) ≡ pos b) × Least P (suc k * size S) b
+
+module _ (P : Ids) (S : ℕ) (cs : List ℤ) (w : Bounded P S cs) where
+  bound-is : (k : ℕ) → suc k < parts (total P) S → getD cs k (pos 0) ≡ pos (boundary P S (suc k))
+  bound-is k l = let b = w .least k l in b .1 ∙ ap pos (least-one (b .2) (boundary-is P S k l))
+
+  low-is : (k : ℕ) → k < parts (total P) S → lowAt cs k ≡ lowEnd P S k
+  unfolding lowEnd
+  low-is zero l = refl
+  low-is (suc k) l = let e : suc k - 1 ≡ k = omega arith in low-later cs (suc k) (omega arith) ∙ ap (λ (n : ℕ). getD cs n (pos 0)) e ∙ bound-is k l
+
+  pub span-part : (k : ℕ) → k < parts (total P) S → intervalOf (spanAt (planOf (total P) S) cs k) ≡ part P S k
+  span-part k l = go (ltb (k + 1) (parts (total P) S)) refl
+    where
+      go : (b : Bool) → ltb (k + 1) (parts (total P) S) ≡ b → intervalOf (spanAt (planOf (total P) S) cs k) ≡ part P S k
+      go true e =
+          let m = ltb-true (k + 1) (parts (total P) S) e in
+          ap intervalOf (span-between (planOf (total P) S) cs k m) ∙ ap₂ interval (low-is k l) (ap before (bound-is k (omega arith)) ∙ sym (high-next P S k (omega arith)))
+      go false e =
+          let m = ltb-false (k + 1) (parts (total P) S) e in
+          ap intervalOf (span-from (planOf (total P) S) cs k m) ∙ ap₂ interval (low-is k l) (sym (high-last P S k (omega arith)))
+
+  plan-ok : planOk (planOf (total P) S) cs ≡ true
+  plan-ok = ap₂ _&&_ (record-ok (total P) S) (le-leb (parts (total P) S - 1) (length cs) (w .enough))
+
+  -- `ids` answers the parts of the set
+  pub ids-part : (k : ℕ) → k < parts (total P) S → idsBy (planOf (total P) S) cs k ≡ spanned.Of (spanAt (planOf (total P) S) cs k)
+  ids-part k l = ids-there (planOf (total P) S) cs k plan-ok l
+
+-- `ranks` answers a part's first rank and how many members it holds
+pub ranks-part : (P : Ids) (S k : ℕ) → k < parts (total P) S → ranksBy (planOf (total P) S) k ≡ ranks.Of (k * size S) (held P (part P S k))
+ranks-part P S k l = ranks-there (planOf (total P) S) k (record-ok (total P) S) l ∙ ap (ranks.Of (k * size S)) (sym (part-held P S k l))
+
+-- a plan was made: there was room
+room-of : (P : Ids) (S room : ℕ) (r : Bool) → Made (planOf (total P) S) ≡ cond r (cond (ltb room (parts (total P) S - 1)) (Refused 11) (Made (planOf (total P) S))) (Refused 5) → parts (total P) S - 1 ≤ room
+room-of P S room false e = absurd (let z : _≡_ {A = ℕ} 0 1 = cc in omega arith)
+room-of P S room true e = go (ltb room (parts (total P) S - 1)) refl e
+  where
+    go : (b : Bool) → ltb room (parts (total P) S - 1) ≡ b → Made (planOf (total P) S) ≡ cond b (Refused 11) (Made (planOf (total P) S)) → parts (total P) S - 1 ≤ room
+    go true t q = absurd (let z : _≡_ {A = ℕ} 0 1 = cc in omega arith)
+    go false t q = ltb-false room (parts (total P) S - 1) t
+
+-- boundaries as a planning leaves them
+pub plans-bounded : {x : Mem} {S : ℕ} {bs cs : List ℤ} → Plans x S bs (Made (planOf (total (holds x)) S)) cs → Bounded (holds x) S cs
+unfolding planAnswer
+plans-bounded {x} {S} {bs} {cs} p = record { enough = (let l = room-of (holds x) S (length bs) (ranked x) (p .answer) in let e = p .same-length in omega arith); least = p .boundaries refl }

@@ -1,0 +1,63 @@
+-- Planning on any memory: a walk, the room, then a boundary at a time.
+use Prim.Native.Nat.{ℕ, zero, suc, _+_, _-_, _*_, _/_, _^_}
+use mathlib.Core.List.{List}
+use mathlib.Core.Bool.{Bool, cond}
+use lib.IntN.{ℤ, pos}
+use lib.ListN.{length, set}
+use lib.Dec.{leb, ltb, eqb}
+use Rattle.sums.specs.Cuts.{size, parts}
+use Rattle.layout.specs.Mem.{Mem}
+use Rattle.layout.specs.Sizes.{modeAt, totalAt}
+use Rattle.layout.specs.Tests.{walked}
+use Rattle.layout.specs.declared.answer.Amount.{Amount}
+use Rattle.layout.specs.declared.answer.Amount.the-variants as amount
+use Rattle.ranks.specs.Rank.{rankBy}
+use Rattle.cuts.specs.declared.plan.Plan.{Plan}
+use Rattle.cuts.specs.declared.plan.Planning.{Planning}
+use Rattle.cuts.specs.declared.plan.Planning.the-variants.{Made, Refused}
+
+-- the search narrows lo to hi until one id is left, turns times at most
+unfoldable pub narrowIn : ℕ → (ℕ → ℕ) → ℕ → ℕ → ℕ → ℕ
+narrowIn zero f m lo hi = lo
+narrowIn (suc turns) f m lo hi =
+    cond (ltb lo hi)
+    (cond (leb m (f (lo + (hi - lo) / 2))) (narrowIn turns f m lo (lo + (hi - lo) / 2)) (narrowIn turns f m (lo + (hi - lo) / 2 + 1) hi))
+    lo
+
+unfoldable pub narrowed : (ℕ → ℕ) → ℕ → ℕ → ℕ → ℕ
+narrowed f m lo hi = narrowIn (hi - lo) f m lo hi
+
+-- the rank of id n; 0 where memory can't tell
+abbrev pub amountOf : Amount → ℕ
+amountOf (amount.Of k) = k
+amountOf (amount.Refused c) = 0
+
+unfoldable pub rankOf : Mem → ℕ → ℕ
+rankOf x n = amountOf (rankBy x (pos n))
+
+-- the smallest id of 0 or more whose rank is at least m
+unfoldable pub boundaryBy : Mem → ℕ → ℕ
+boundaryBy x m = narrowed (rankOf x) m 0 (2 ^ 63 - 1)
+
+-- boundaries 1 to k, in the first k places
+unfoldable pub boundsTo : Mem → ℕ → List ℤ → ℕ → List ℤ
+boundsTo x S bs zero = bs
+boundsTo x S bs (suc k) = set (boundsTo x S bs k) k (pos (boundaryBy x (suc k * size S)))
+
+-- an answer, and the boundaries after the call
+pub record Cut : Type 0 where
+  pub answer : Planning
+  pub bounds : List ℤ
+
+abbrev pub cut : Planning → List ℤ → Cut
+cut a bs = record { answer = a; bounds = bs }
+
+abbrev pub planOf : ℕ → ℕ → Plan
+planOf t S = record { total = t; slots = size S; partitions = parts t S }
+
+abbrev pub planTotal : Mem → ℕ → List ℤ → ℕ → Cut
+planTotal x S bs t = cond (ltb (length bs) (parts t S - 1)) (cut (Refused 11) bs) (cut (Made (planOf t S)) (boundsTo x S bs (parts t S - 1)))
+
+-- 3, then 5, then 11
+unfoldable pub planBy : Mem → ℕ → List ℤ → Cut
+planBy x S bs = cond (walked x) (cond (eqb (modeAt (x .table)) 1) (planTotal x S bs (totalAt (x .table))) (cut (Refused 5) bs)) (cut (Refused 3) bs)
