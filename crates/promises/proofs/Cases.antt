@@ -1,8 +1,9 @@
 -- Every row of document 01's worked cases holds: memory's answers are computed, and they are the plain set's by the laws of histories. Assumes nothing.
 use mathlib.Core.Path.{_≡_, refl, sym, ap, ap₂, subst}
-use mathlib.Core.List.{List, [], _∷_}
-use mathlib.Core.Bool.{Bool, true, _&&_}
-use Prim.Native.Nat.{_^_}
+use mathlib.Core.List.{List, [], _∷_, _++_, List·Memᴰ, List·Memᴰ·head, List·Memᴰ·tail}
+use mathlib.Core.Bool.{Bool, true, false, _&&_}
+use Prim.Native.Nat.{ℕ, _^_}
+use native.Mathlib.Omega.{arith}
 use lib.IntN.{ℤ}
 use lib.Dec.{ltb}
 use lib.Signed.{mag}
@@ -12,7 +13,9 @@ use borrow.Author.Tests.{ltb-true}
 use Rattle.sums.specs.Sums.{sumTo}
 use Rattle.sums.specs.Ids.{count}
 use Rattle.sums.specs.Rules.{allTo}
+use Rattle.sums.specs.Cases as plain-set
 use Rattle.sums.proofs.Rules.{both}
+use Rattle.sums.proofs.Cases.{cases as plain-cases}
 use Rattle.dense.specs.Bits.{bit, isSet, bitsTo, withBit, withRow}
 use Rattle.sparse.specs.Search.{lowerIn, lowerOf, searchIn, spotIn}
 use Rattle.sparse.specs.Edit.{insertedAt}
@@ -35,7 +38,7 @@ use Rattle.ranks.specs.Rank.{seatIn, rankBy, rankIfBy}
 use Rattle.promises.specs.Calls.{Call, insert, prepared, prepare, rank-up, leave, Fitting, Said}
 use Rattle.promises.specs.Asks.{asked}
 use Rattle.promises.specs.Stories.{Story, made, then, Told, reached}
-use Rattle.promises.specs.Cases.{tiny, blank, after, from, answers, heard, Case, calls, asks, kind, row, page, Says, AllSay, table}
+use Rattle.promises.specs.Cases.{tiny, blank, after, from, answers, heard, Case, calls, asks, kind, row, page, plain, Says, AllSay, memoryRows, plainRows, table}
 use Rattle.promises.proofs.Histories.{all-kept}
 use Rattle.promises.proofs.Answers.{kept-reads}
 
@@ -93,6 +96,7 @@ computed (asks before a r) = asks before a (asked (reached (from before)) a)
 computed (kind before c k) = kind before c (kinds (reached (from before)) c)
 computed (row before r o) = row before r (rowOwner tiny (reached (from before) .table) r)
 computed (page before p o) = page before p (pageOwner tiny (reached (from before) .table) p)
+computed (plain c) = plain c
 
 abbrev proper : Case → Bool
 proper (calls before cs rs) = allFit before && allFit cs
@@ -100,6 +104,7 @@ proper (asks before a r) = allFit before
 proper (kind before c k) = allFit before
 proper (row before r o) = true
 proper (page before p o) = true
+proper (plain c) = false
 
 computed-says : (c : Case) → proper c ≡ true → Says (computed c)
 computed-says (calls before cs rs) u = let b = both (allFit before) (allFit cs) u in (answers-heard (from before) cs (from-told before (b .0)) (b .1), refl)
@@ -107,6 +112,7 @@ computed-says (asks before a r) u = (sym (kept-reads (from before) (all-kept (fr
 computed-says (kind before c k) u = (sym (ap (λ (q : State). q .map c) (all-kept (from before) (from-told before u) .state)), refl)
 computed-says (row before r o) u = refl
 computed-says (page before p o) u = refl
+computed-says (plain c) u = absurd (let z : _≡_ {A = ℕ} 0 1 = cc in omega arith)
 
 abbrev allComputed : List Case → List Case
 allComputed [] = []
@@ -120,12 +126,24 @@ all-say : (cs : List Case) → allProper cs ≡ true → AllSay (allComputed cs)
 all-say [] u = tt
 all-say (c ∷ cs) u = let b = both (proper c) (allProper cs) u in (computed-says c (b .0), all-say cs (b .1))
 
-table-computed : allComputed table ≡ table
+table-computed : allComputed memoryRows ≡ memoryRows
 unfolding sumTo count allTo bit isSet bitsTo withBit withRow lowerIn lowerOf searchIn spotIn insertedAt inRange roomy keyIs placeIs headIs tableIs walked kinds wordOf beside chunkAt wordAt prefixAt membersAt lowerKey wordIn spotOf zeroed freshTable fresh setUpBy putPart added putWord rowed paged firstFree planBy insertBy preparedPlan preparedBy densedTo overNeeded pagesNeeded prepareBy goodAt sizeAt usedAt partsOk lenBy hasAnyBy prefixed blocked blockedTo toRanked rankUpBy seatIn rankBy rankIfBy
 table-computed = refl
 
-table-proper : allProper table ≡ true
+table-proper : allProper memoryRows ≡ true
 table-proper = refl
 
+memory-says : AllSay memoryRows
+memory-says = subst AllSay table-computed (all-say memoryRows table-proper)
+
+-- the rows about plain sets, and both together
+plain-says : (cs : List plain-set.Case) → ((c : plain-set.Case) → List·Memᴰ c cs → plain-set.Says c) → AllSay (plainRows cs)
+plain-says [] h = tt
+plain-says (c ∷ cs) h = (h c (List·Memᴰ·head refl), plain-says cs (λ d m. h d (List·Memᴰ·tail m)))
+
+both-say : (xs ys : List Case) → AllSay xs → AllSay ys → AllSay (xs ++ ys)
+both-say [] ys a b = b
+both-say (x ∷ xs) ys a b = (a .0, both-say xs ys (a .1) b)
+
 pub table-says : AllSay table
-table-says = subst AllSay table-computed (all-say table table-proper)
+table-says = both-say memoryRows (plainRows plain-set.table) memory-says (plain-says plain-set.table plain-cases)

@@ -1,10 +1,11 @@
--- Document 01's worked cases a, b, c, d, e and j at its tiny sizes: rows of one table.
+-- Document 01's worked cases: a to e and j at its tiny sizes, and crate sums' e to i about plain sets, rows of one table.
 use mathlib.Core.Path.{_≡_}
 use Prim.Native.Nat.{ℕ, _-_, _^_}
 use mathlib.Core.List.{List, [], _∷_, _++_}
 use mathlib.Core.Bool.{true, false}
 use lib.IntN.{ℤ, pos, negsuc}
 use lib.ListN.{replicate}
+use Rattle.sums.specs.Cases as plain-set
 use Rattle.layout.specs.Mem.{Mem, mem}
 use Rattle.layout.specs.Places.{rowOwner, pageOwner}
 use Rattle.layout.specs.Meaning.{Kind, sparse, dense, kinds}
@@ -54,6 +55,8 @@ pub data Case : Type 0 where
   -- the owner of a row or page: a chunk id plus 1, 0 where it is free
   row : List Call → ℕ → ℕ → Case
   page : List Call → ℕ → ℕ → Case
+  -- a case about a plain set
+  plain : plain-set.Case → Case
 
 -- by the plain set and by memory
 abbrev pub Says : Case → Type 0
@@ -62,6 +65,7 @@ Says (asks before a r) = (reply (described (from before)) a ≡ r) × (asked (re
 Says (kind before c k) = (described (from before) .map c ≡ k) × (kinds (reached (from before)) c ≡ k)
 Says (row before r o) = rowOwner tiny (reached (from before) .table) r ≡ o
 Says (page before p o) = pageOwner tiny (reached (from before) .table) p ≡ o
+Says (plain c) = plain-set.Says c
 
 abbrev pub AllSay : List Case → Type 0
 AllSay [] = Unit
@@ -97,8 +101,9 @@ rankedFour = inserts (0 ∷ 5 ∷ 7 ∷ 9 ∷ []) ++ (rank-up ∷ [])
 abbrev ready : List Call
 ready = prepare (pos 511) ∷ []
 
-abbrev pub table : List Case
-table =
+-- on memory
+abbrev pub memoryRows : List Case
+memoryRows =
     -- a
     calls [] caseA (no ∷ yes ∷ yes ∷ yes ∷ yes ∷ no ∷ yes ∷ [])
     ∷ kind (inserts (0 ∷ 1 ∷ 2 ∷ 3 ∷ 3 ∷ [])) 0 sparse
@@ -131,3 +136,11 @@ table =
     ∷ calls [] (prepare (pos 512) ∷ []) (that (outcome.Refused 8) ∷ [])
     ∷ calls [] (prepare (pos 1536) ∷ []) (that (outcome.Refused 6) ∷ [])
     ∷ []
+
+-- e to i of plain sets, the plans among them
+abbrev pub plainRows : List plain-set.Case → List Case
+plainRows [] = []
+plainRows (c ∷ cs) = plain c ∷ plainRows cs
+
+abbrev pub table : List Case
+table = memoryRows ++ plainRows plain-set.table
