@@ -1,24 +1,36 @@
 -- A boundary fits an i64 on any memory; on memory that follows the layout it is the least id with its rank. Assumes nothing.
-use mathlib.Core.Path.{_≡_, ap, _∙_}
+use mathlib.Core.Path.{_≡_, sym, ap, _∙_}
 use mathlib.Core.Bool.{Bool, true, cond}
 use Prim.Native.Nat.{ℕ, suc, _-_, _^_, _≤_, _<_}
 use native.Mathlib.Omega.{arith}
-use lib.IntN.{pos}
+use lib.IntN.{ℤ, pos}
 use Rattle.sums.specs.Ids.{Ids, count, rank, total}
 use Rattle.sums.specs.Cuts.{Least}
 use Rattle.sums.proofs.Counts.{count-suc, count-mono, byte-le}
 use Rattle.layout.specs.Mem.{Mem}
 use Rattle.layout.specs.Meaning.{holds, ranked}
 use Rattle.layout.specs.Follows.{Follows}
+use Rattle.layout.specs.declared.answer.Amount.{Amount}
 use Rattle.layout.specs.declared.answer.Amount.the-variants as amount
+use Rattle.ranks.specs.Rank.{rankBy}
 use Rattle.ranks.specs.Promise.{rankAnswer}
 use Rattle.ranks.proofs.Ranks.{rank-is}
 use Rattle.cuts.specs.Plan.{narrowed, amountOf, rankOf, boundaryBy}
-use Rattle.cuts.proofs.Narrowing.{First, narrowed-below, narrowed-first}
+use Rattle.cuts.proofs.Narrowing.{First, narrowed-between, narrowed-first}
 
 pub boundary-below : (x : Mem) (m : ℕ) → boundaryBy x m < 2 ^ 63
 unfolding boundaryBy
-boundary-below x m = let l = narrowed-below (rankOf x) m 0 (2 ^ 63 - 1) (omega arith) in omega arith
+boundary-below x m = let l = narrowed-between (rankOf x) m 0 (2 ^ 63 - 1) (omega arith) in omega arith
+
+-- the rank that the code asked for, by its answer
+pub rank-told : (x : Mem) (n : ℕ) (z : ℤ) (a b : Amount) → z ≡ pos n → a ≡ rankBy x z → a ≡ b → amountOf b ≡ rankOf x n
+unfolding rankOf
+rank-told x n z a b q e d = ap amountOf (sym d ∙ e ∙ ap (rankBy x) q)
+
+-- what the whole search answers
+pub boundary-is : (x : Mem) (m r : ℕ) → r ≡ narrowed (rankOf x) m 0 (2 ^ 63 - 1) → r ≡ boundaryBy x m
+unfolding boundaryBy
+boundary-is x m r e = e
 
 -- short of the total, the largest i64 has rank enough
 total-within : (P : Ids) (m n : ℕ) → m < count P (suc n) → m ≤ count P n

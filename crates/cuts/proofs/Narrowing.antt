@@ -65,15 +65,22 @@ module _ (f : ℕ → ℕ) (m : ℕ) where
       ∙ in-turn (hi - lo) lo hi false l (lt-leb m (f (lo + (hi - lo) / 2)) e)
       ∙ in-same (hi - lo) (hi - (lo + (hi - lo) / 2 + 1)) (lo + (hi - lo) / 2 + 1) hi (omega arith) (omega arith)
 
+  -- a call's answer, where its rank k at the middle sends it on
+  pub step-low : (lo hi k r : ℕ) → lo < hi → k ≡ f (lo + (hi - lo) / 2) → m ≤ k → r ≡ narrowed f m lo (lo + (hi - lo) / 2) → r ≡ narrowed f m lo hi
+  step-low lo hi k r l e h q = q ∙ sym (narrowed-low lo hi l (subst (λ (n : ℕ). m ≤ n) e h))
+
+  pub step-high : (lo hi k r : ℕ) → lo < hi → k ≡ f (lo + (hi - lo) / 2) → k < m → r ≡ narrowed f m (lo + (hi - lo) / 2 + 1) hi → r ≡ narrowed f m lo hi
+  step-high lo hi k r l e h q = q ∙ sym (narrowed-high lo hi l (subst (λ (n : ℕ). n < m) e h))
+
   -- ---- for any ranks
 
-  in-below : (t lo hi : ℕ) → lo ≤ hi → narrowIn t f m lo hi ≤ hi
+  in-between : (t lo hi : ℕ) → lo ≤ hi → (lo ≤ narrowIn t f m lo hi) × (narrowIn t f m lo hi ≤ hi)
   unfolding narrowIn
-  in-below zero lo hi l = l
-  in-below (suc t) lo hi l = go (ltb lo hi) refl (leb m (f (lo + (hi - lo) / 2))) refl (in-below t)
+  in-between zero lo hi l = (omega arith, l)
+  in-between (suc t) lo hi l = go (ltb lo hi) refl (leb m (f (lo + (hi - lo) / 2))) refl (in-between t)
     where
       go : (a : Bool) → ltb lo hi ≡ a → (b : Bool) → leb m (f (lo + (hi - lo) / 2)) ≡ b
-          → ((x y : ℕ) → x ≤ y → narrowIn t f m x y ≤ y) → narrowIn (suc t) f m lo hi ≤ hi
+          → ((x y : ℕ) → x ≤ y → (x ≤ narrowIn t f m x y) × (narrowIn t f m x y ≤ y)) → (lo ≤ narrowIn (suc t) f m lo hi) × (narrowIn (suc t) f m lo hi ≤ hi)
       go false d b e r = let q = in-end (suc t) lo hi (ltb-false lo hi d) in omega arith
       go true d true e r =
           let k = ltb-true lo hi d in
@@ -86,9 +93,9 @@ module _ (f : ℕ → ℕ) (m : ℕ) where
           let i = r (lo + (hi - lo) / 2 + 1) hi (omega arith) in
           omega arith
 
-  pub narrowed-below : (lo hi : ℕ) → lo ≤ hi → narrowed f m lo hi ≤ hi
+  pub narrowed-between : (lo hi : ℕ) → lo ≤ hi → (lo ≤ narrowed f m lo hi) × (narrowed f m lo hi ≤ hi)
   unfolding narrowed
-  narrowed-below lo hi l = in-below (hi - lo) lo hi l
+  narrowed-between lo hi l = in-between (hi - lo) lo hi l
 
   -- ---- where they rise
 

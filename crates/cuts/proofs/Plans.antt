@@ -1,8 +1,9 @@
 -- Planning: what each way through it leaves, on any memory, and what document 01 says on memory that follows the layout. Assumes nothing.
-use mathlib.Core.Path.{_≡_, refl, sym, ap, subst, _∙_}
+use mathlib.Core.Path.{_≡_, refl, sym, ap, ap₂, subst, _∙_}
 use mathlib.Core.Bool.{Bool, true, false, cond}
 use mathlib.Core.List.{List}
-use Prim.Native.Nat.{ℕ, zero, suc, _-_, _*_, _≤_, _<_}
+use Prim.Native.Nat.{ℕ, zero, suc, _+_, _-_, _*_, _≤_, _<_}
+use native.Mathlib.Numerals.{add-one}
 use native.Mathlib.Omega.{arith}
 use lib.IntN.{ℤ, pos}
 use lib.ListN.{length, getD, set, length-set}
@@ -61,6 +62,13 @@ module _ (x : Mem) (S : ℕ) (bs : List ℤ) where
           let e : k ≡ n = omega arith in
           let f : n < length (boundsTo x S bs n) = omega (arith, bounds-length n) in
           rw e (getD-set-same (boundsTo x S bs n) n (pos (boundaryBy x (suc n * size S))) (pos 0) f)
+
+  -- one more of them, by the code's numbers
+  pub bounds-turn : (k g : ℕ) (l c : List ℤ) (z : ℤ) → g ≡ size S → l ≡ boundsTo x S bs k → z ≡ pos (boundaryBy x ((k + 1) * g)) → c ≡ set l k z → c ≡ boundsTo x S bs (k + 1)
+  bounds-turn k g l c z e i v q =
+      let d : (k + 1) * g ≡ suc k * size S = ap₂ _*_ (add-one k) e in
+      let w : z ≡ pos (boundaryBy x (suc k * size S)) = v ∙ ap (λ (m : ℕ). pos (boundaryBy x m)) d in
+      q ∙ ap₂ (λ (a : List ℤ) (y : ℤ). set a k y) i w ∙ sym (bounds-suc k) ∙ ap (boundsTo x S bs) (sym (add-one k))
 
   -- ---- the ways through a planning
 

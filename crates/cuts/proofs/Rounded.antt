@@ -2,7 +2,7 @@
 use mathlib.Core.Path.{_≡_, refl, ap}
 use mathlib.Core.Bool.{Bool, true, false, not, _&&_}
 use Prim.Native.Nat.{ℕ, zero, suc, _+_, _-_, _*_, _/_, _^_, _≤_, _<_}
-use native.Mathlib.Nat.{add-div-right, div-eq-of-lt, div-le-self}
+use native.Mathlib.Nat.{add-div-right, div-eq-of-lt, div-le-self, mul-le-mul-right}
 use native.Mathlib.Omega.{arith}
 use lib.Dec.{eqb}
 use borrow.Author.Tests.{eqb-true, eqb-false}
@@ -31,6 +31,13 @@ parts-some t s g n e =
 
 pub parts-fits : (t g : ℕ) → (t ≡ 0 → ⊥) → t < 2 ^ 64 → Fits w64 ((t - 1) / g + 1)
 parts-fits t g n l = record { fits = omega (arith, div-le-self (t - 1) g) }
+
+-- a rank asked for fits where the last one does
+pub target-fits : (k n s g : ℕ) → k < n → g ≡ size s → n * size s < 2 ^ 64 → Fits w64 ((k + 1) * g)
+target-fits k n s g l e h =
+    let m : (k + 1) * size s ≤ n * size s = mul-le-mul-right (size s) (omega arith) in
+    let q : (k + 1) * g ≡ (k + 1) * size s = ap (λ (a : ℕ). (k + 1) * a) e in
+    record { fits = omega arith }
 
 -- ---- a plan's record that passes its test
 

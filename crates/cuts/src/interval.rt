@@ -21,21 +21,21 @@ pub fn partitions(p: Plan) -> u64
 }
 
 // S is not 0, and the number of partitions is that of the total.
-pub fn record_ok(p: Plan) -> bool
+fn record_ok(p: Plan) -> bool
     ensures { λ b. ⌜ b ≡ recordOk p ⌝ }
 {
     (p.slots != 0) & (p.partitions == round::parts(p.total, p.slots))
 }
 
 // And the boundaries are as many as it needs.
-pub fn plan_ok(p: Plan, bounds: &[i64]) -> bool
+fn plan_ok(p: Plan, bounds: &[i64]) -> bool
     ensures { λ b. ⌜ b ≡ planOk p (now (bounds .entry)) ⌝ }
 {
     record_ok(p) & (order::minus(p.partitions, 1) <= bounds.len() as u64)
 }
 
 // Partition k's low end.
-pub fn low(bounds: &[i64], k: u64) -> i64
+fn low(bounds: &[i64], k: u64) -> i64
     ensures { λ z. ⌜ z ≡ lowAt (now (bounds .entry)) k ⌝ }
 {
     if k == 0 {

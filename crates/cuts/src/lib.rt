@@ -1,5 +1,7 @@
 // The plan: boundaries of a ranked set, and the intervals between them.
-pub mod bound;
+mod bound;
 pub mod interval;
 pub mod plan;
-pub mod round;
+pub mod planning;
+mod round;
+mod search;

@@ -3,3 +3,4 @@ pub mod Spots
 pub mod Gets
 pub mod Runs
 pub mod Totals
+pub mod Promises

@@ -1,14 +1,13 @@
 // Counts of members and of chunks, in both modes. The run tests each entry as it comes.
-ghost use mathlib.Core.Path.{_≡_};
 ghost use Rattle.layout.specs.Mem.{memOf};
-ghost use Rattle.calls.specs.Counts.{lenBy, isEmptyBy, hasAnyBy, chunksBy};
+ghost use Rattle.idset.specs.Answers.{Len, IsEmpty, HasAny, ChunkCount};
 use crate::entries;
 use layout::answer::Amount;
 use layout::answer::Truth;
 
 // The members.
 pub fn len(pages: &[u64], rows: &[u32], blocks: &[u32], table: &[u64]) -> Amount
-    ensures { λ r. ⌜ r ≡ lenBy (memOf (pages .entry) (rows .entry) (blocks .entry) (table .entry)) ⌝ }
+    ensures { λ r. ⌜ Len (memOf (pages .entry) (rows .entry) (blocks .entry) (table .entry)) r ⌝ }
 {
     if !entries::are(table) {
         return Amount::Refused(3);
@@ -31,7 +30,7 @@ pub fn len(pages: &[u64], rows: &[u32], blocks: &[u32], table: &[u64]) -> Amount
 
 // Whether there is no member.
 pub fn is_empty(pages: &[u64], rows: &[u32], blocks: &[u32], table: &[u64]) -> Truth
-    ensures { λ r. ⌜ r ≡ isEmptyBy (memOf (pages .entry) (rows .entry) (blocks .entry) (table .entry)) ⌝ }
+    ensures { λ r. ⌜ IsEmpty (memOf (pages .entry) (rows .entry) (blocks .entry) (table .entry)) r ⌝ }
 {
     if !entries::are(table) {
         return Truth::Refused(3);
@@ -54,7 +53,7 @@ pub fn is_empty(pages: &[u64], rows: &[u32], blocks: &[u32], table: &[u64]) -> T
 
 // Whether there is a chunk, be it empty.
 pub fn has_any(pages: &[u64], rows: &[u32], blocks: &[u32], table: &[u64]) -> Truth
-    ensures { λ r. ⌜ r ≡ hasAnyBy (memOf (pages .entry) (rows .entry) (blocks .entry) (table .entry)) ⌝ }
+    ensures { λ r. ⌜ HasAny (memOf (pages .entry) (rows .entry) (blocks .entry) (table .entry)) r ⌝ }
 {
     if !entries::are(table) {
         return Truth::Refused(3);
@@ -72,7 +71,7 @@ pub fn has_any(pages: &[u64], rows: &[u32], blocks: &[u32], table: &[u64]) -> Tr
 
 // The chunks, empty ones too.
 pub fn allocated_chunk_count(pages: &[u64], rows: &[u32], blocks: &[u32], table: &[u64]) -> Amount
-    ensures { λ r. ⌜ r ≡ chunksBy (memOf (pages .entry) (rows .entry) (blocks .entry) (table .entry)) ⌝ }
+    ensures { λ r. ⌜ ChunkCount (memOf (pages .entry) (rows .entry) (blocks .entry) (table .entry)) r ⌝ }
 {
     if !entries::are(table) {
         return Amount::Refused(3);

@@ -1,7 +1,6 @@
 // Membership and chunk ids, in both modes.
-ghost use mathlib.Core.Path.{_≡_};
 ghost use Rattle.layout.specs.Mem.{memOf};
-ghost use Rattle.calls.specs.Reading.{getBy, chunkOfBy};
+ghost use Rattle.idset.specs.Answers.{Gets, ChunkOf};
 use crate::chunk;
 use layout::answer::Perhaps;
 use layout::answer::Truth;
@@ -12,7 +11,7 @@ use numbers::place as element;
 
 // Whether an id is a member. A negative one never is.
 pub fn get(pages: &[u64], rows: &[u32], blocks: &[u32], table: &[u64], id: i64) -> Truth
-    ensures { λ r. ⌜ r ≡ getBy (memOf (pages .entry) (rows .entry) (blocks .entry) (table .entry)) id ⌝ }
+    ensures { λ r. ⌜ Gets (memOf (pages .entry) (rows .entry) (blocks .entry) (table .entry)) id r ⌝ }
 {
     let s = element::at(table, 0);
     if !((9 <= s) & (s <= 25)) {
@@ -26,7 +25,7 @@ pub fn get(pages: &[u64], rows: &[u32], blocks: &[u32], table: &[u64], id: i64) 
 
 // The chunk that an id lives in, none for a negative one.
 pub fn chunk_of(pages: &[u64], rows: &[u32], blocks: &[u32], table: &[u64], id: i64) -> Perhaps
-    ensures { λ r. ⌜ r ≡ chunkOfBy (memOf (pages .entry) (rows .entry) (blocks .entry) (table .entry)) id ⌝ }
+    ensures { λ r. ⌜ ChunkOf (memOf (pages .entry) (rows .entry) (blocks .entry) (table .entry)) id r ⌝ }
 {
     let s = element::at(table, 0);
     if !((9 <= s) & (s <= 25)) {

@@ -3,3 +3,4 @@ pub mod Plans
 pub mod Readies
 pub mod Acts
 pub mod Gates
+pub mod Promises

@@ -1,18 +1,45 @@
--- What every insert asks first, and the answer that `set` drops.
+-- What each insert does: its definition on any memory, and on memory that follows the layout what document 01 says.
+use mathlib.Core.Path.{_≡_}
 use Prim.Native.Nat.{ℕ}
 use mathlib.Core.List.{List}
 use mathlib.Core.Bool.{cond, _&&_}
 use lib.Dec.{leb, eqb}
+use lib.IntN.{ℤ}
+use Rattle.layout.specs.Mem.{Mem}
 use Rattle.layout.specs.Sizes.{modeAt}
+use Rattle.layout.specs.Follows.{Follows}
 use Rattle.layout.specs.SetUp.{Did, did}
+use Rattle.layout.specs.declared.answer.Truth.{Truth}
+use Rattle.layout.specs.declared.answer.Outcome.{Outcome}
 use Rattle.calls.specs.Reading.{shiftOk}
-use Rattle.calls.specs.Insert.{Told}
-use Rattle.calls.specs.Promise.{done}
+use Rattle.calls.specs.Insert.{Told, told, insertBy, preparedBy}
+use Rattle.calls.specs.Promise.{done, stateOf, newAnswer, preparedAnswer, Inserts}
 
 -- 3, then 4; 0 where the set is open
 unfoldable pub refusalOf : List ℕ → ℕ
 refusalOf t = cond (shiftOk t && leb (modeAt t) 1) (cond (eqb (modeAt t) 1) 4 0) 3
 
--- `set`: whether the id was new is not said
+-- a call that inserts z, answers r and leaves memory y: as defined, and as document 01 wants it
+pub record Does (x : Mem) (z : ℤ) (r : Truth) (y : Mem) (defined : Told) (wanted : Truth) : Type 0 where
+  pub by : told r y ≡ defined
+  pub says : Follows x → Inserts x z wanted r y
+
+-- `set_if_new`
+abbrev pub SetsIfNew : Mem → ℤ → Truth → Mem → Type 0
+SetsIfNew x z r y = Does x z r y (insertBy x z) (newAnswer (stateOf x) z)
+
+-- the prepared insert
+abbrev pub SetsPrepared : Mem → ℤ → Truth → Mem → Type 0
+SetsPrepared x z r y = Does x z r y (preparedBy x z) (preparedAnswer (stateOf x) z)
+
+-- `set` drops the answer: whether the id was new is not said
 abbrev pub dropped : Told → Did
 dropped t = did (done (t .answer)) (t .after)
+
+pub record Dropped (x : Mem) (z : ℤ) (r : Outcome) (y : Mem) (wanted : Truth) : Type 0 where
+  pub answer : r ≡ done wanted
+  pub inserts : Inserts x z wanted wanted y
+
+pub record Sets (x : Mem) (z : ℤ) (r : Outcome) (y : Mem) : Type 0 where
+  pub by : did r y ≡ dropped (insertBy x z)
+  pub says : Follows x → Dropped x z r y (newAnswer (stateOf x) z)

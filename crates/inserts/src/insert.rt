@@ -1,9 +1,7 @@
 // Inserts: `set_if_new`, `set`, and the prepared insert.
 ghost use mathlib.Core.Path.{_≡_};
 ghost use Rattle.layout.specs.Mem.{memOf};
-ghost use Rattle.layout.specs.SetUp.{did};
-ghost use Rattle.calls.specs.Insert.{told, insertBy, preparedBy};
-ghost use Rattle.inserts.specs.Calls.{refusalOf, dropped};
+ghost use Rattle.inserts.specs.Calls.{refusalOf, SetsIfNew, SetsPrepared, Sets};
 use crate::plan;
 use crate::write;
 use layout::answer::Outcome;
@@ -35,7 +33,7 @@ pub fn set_if_new(
     table: &mut [u64],
     id: i64,
 ) -> Truth
-    ensures { λ r. ⌜ told r (memOf (pages .exit) (rows .exit) (blocks .exit) (table .exit)) ≡ insertBy (memOf (pages .entry) (rows .entry) (blocks .entry) (table .entry)) id ⌝ }
+    ensures { λ r. ⌜ SetsIfNew (memOf (pages .entry) (rows .entry) (blocks .entry) (table .entry)) id r (memOf (pages .exit) (rows .exit) (blocks .exit) (table .exit)) ⌝ }
 {
     let n = refusal(table);
     if n != 0 {
@@ -57,7 +55,7 @@ pub fn set(
     table: &mut [u64],
     id: i64,
 ) -> Outcome
-    ensures { λ r. ⌜ did r (memOf (pages .exit) (rows .exit) (blocks .exit) (table .exit)) ≡ dropped (insertBy (memOf (pages .entry) (rows .entry) (blocks .entry) (table .entry)) id) ⌝ }
+    ensures { λ r. ⌜ Sets (memOf (pages .entry) (rows .entry) (blocks .entry) (table .entry)) id r (memOf (pages .exit) (rows .exit) (blocks .exit) (table .exit)) ⌝ }
 {
     match set_if_new(pages, rows, blocks, table, id) {
         Truth::Is(_) => Outcome::Done,
@@ -73,7 +71,7 @@ pub fn set_prepared(
     table: &mut [u64],
     id: i64,
 ) -> Truth
-    ensures { λ r. ⌜ told r (memOf (pages .exit) (rows .exit) (blocks .exit) (table .exit)) ≡ preparedBy (memOf (pages .entry) (rows .entry) (blocks .entry) (table .entry)) id ⌝ }
+    ensures { λ r. ⌜ SetsPrepared (memOf (pages .entry) (rows .entry) (blocks .entry) (table .entry)) id r (memOf (pages .exit) (rows .exit) (blocks .exit) (table .exit)) ⌝ }
 {
     let n = refusal(table);
     if n != 0 {

@@ -100,6 +100,15 @@ module _ (h : Header) where
             ap (λ (k : ℕ). getD (set (prefixed h t f n) (prefixPlace h n) (f n)) (prefixPlace h k) 0) q
             ∙ (getD-set-same (prefixed h t f n) (prefixPlace h n) (f n) 0 (omega arith) ∙ ap f (sym q))
 
+    -- words stay, entry by entry
+    pub prefixed-word : (n e : ℕ) → wordAt h (prefixed h t f n) e ≡ wordAt h t e
+    prefixed-word n e = go (which (h .d) e)
+      where
+        go : Which (h .d) e → wordAt h (prefixed h t f n) e ≡ wordAt h t e
+        go (direct m) = word-direct h (prefixed h t f n) e m ∙ prefixed-other n (directAt e) (λ i k. place-no-direct e i m) ∙ sym (word-direct h t e m)
+        go (over j q) =
+            ap (wordAt h (prefixed h t f n)) q ∙ word-over h (prefixed h t f n) j ∙ prefixed-other n (overAt h j + 1) (λ i k. place-no-word j i) ∙ sym (ap (wordAt h t) q ∙ word-over h t j)
+
 -- ---- header words 6 and 8
 
 module _ (t : List ℕ) (mode total : ℕ) where

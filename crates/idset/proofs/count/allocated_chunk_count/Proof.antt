@@ -1,4 +1,5 @@
 -- The entries so far that have a word. Assumes nothing.
+use Rattle.idset.proofs.Promises.{chunk-count}
 use borrow.Author.Needs.{needs}
 use Prim.Native.Nat.{_-_, _≤_}
 use mathlib.Core.Path.{_≡_, sym, _∙_}
@@ -26,7 +27,7 @@ are-requires : tie.Need-are-requires Inv-loop μ-loop
 are-requires c κs = search needs
 
 returns : tie.Need-returns Inv-loop μ-loop
-returns c = chunks-no (memory (c .before .before .before .before .before .before)) (sym (c .before .are .ensures) ∙ not-true _ (c .if1 .taken))
+returns c = chunk-count (memory (c .before .before .before .before .before .before)) (chunks-no (memory (c .before .before .before .before .before .before)) (sym (c .before .are .ensures) ∙ not-true _ (c .if1 .taken)))
 
 number-requires : tie.Need-number-requires Inv-loop μ-loop
 number-requires c κs = sym (c .before .are .ensures) ∙ not-false _ (c .if1 .left)
@@ -53,7 +54,7 @@ loop-again : tie.Need-loop-again Inv-loop μ-loop
 loop-again c = let l = c .before .before .loop in (omega (arith, c .before .loop-test), chunk-more (memory (c .before .before .before .before .before .before .before .before .before .before)) (l .e) _ (l .inv .1) _ (c .word-at .ensures))
 
 returns-2 : tie.Need-returns-2 Inv-loop μ-loop
-returns-2 c = let l = c .before .loop in chunks-is (memory (c .before .before .before .before .before .before .before .before .before)) _ (l .e) (c .before .before .number .ensures .0) (l .inv .0) (c .loop-test .left) (sym (c .before .before .before .before .are .ensures) ∙ not-false _ (c .before .before .before .if1 .left)) _ (l .inv .1)
+returns-2 c = chunk-count (memory (c .before .before .before .before .before .before .before .before .before)) (let l = c .before .loop in chunks-is (memory (c .before .before .before .before .before .before .before .before .before)) _ (l .e) (c .before .before .number .ensures .0) (l .inv .0) (c .loop-test .left) (sym (c .before .before .before .before .are .ensures) ∙ not-false _ (c .before .before .before .if1 .left)) _ (l .inv .1))
 
 pub allocated-chunk-count-spec : {M : Type 1} → statement M
 allocated-chunk-count-spec =

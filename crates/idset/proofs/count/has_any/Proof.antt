@@ -1,4 +1,5 @@
 -- No entry so far has a word. Assumes nothing.
+use Rattle.idset.proofs.Promises.{has-any}
 use borrow.Author.Needs.{needs}
 use Prim.Native.Nat.{_-_, _≤_}
 use mathlib.Core.Path.{_≡_, sym, _∙_}
@@ -25,7 +26,7 @@ are-requires : tie.Need-are-requires Inv-loop μ-loop
 are-requires c κs = search needs
 
 returns : tie.Need-returns Inv-loop μ-loop
-returns c = any-no (memory (c .before .before .before .before .before .before)) (sym (c .before .are .ensures) ∙ not-true _ (c .if1 .taken))
+returns c = has-any (memory (c .before .before .before .before .before .before)) (any-no (memory (c .before .before .before .before .before .before)) (sym (c .before .are .ensures) ∙ not-true _ (c .if1 .taken)))
 
 number-requires : tie.Need-number-requires Inv-loop μ-loop
 number-requires c κs = sym (c .before .are .ensures) ∙ not-false _ (c .if1 .left)
@@ -37,7 +38,7 @@ word-at-requires : tie.Need-word-at-requires Inv-loop μ-loop
 word-at-requires c κs = (sym (c .before .before .before .before .are .ensures) ∙ not-false _ (c .before .before .before .if1 .left), omega (arith, c .loop-test, c .before .before .number .ensures .1))
 
 returns-2 : tie.Need-returns-2 Inv-loop μ-loop
-returns-2 c = let l = c .before .before .before .loop in any-found (memory (c .before .before .before .before .before .before .before .before .before .before .before)) (sym (c .before .before .before .before .before .before .are .ensures) ∙ not-false _ (c .before .before .before .before .before .if1 .left)) _ (l .e) _ (c .before .before .before .before .number .ensures .0) (c .before .before .loop-test .taken) (c .before .word-at .ensures) (c .if2 .taken)
+returns-2 c = has-any (memory (c .before .before .before .before .before .before .before .before .before .before .before)) (let l = c .before .before .before .loop in any-found (memory (c .before .before .before .before .before .before .before .before .before .before .before)) (sym (c .before .before .before .before .before .before .are .ensures) ∙ not-false _ (c .before .before .before .before .before .if1 .left)) _ (l .e) _ (c .before .before .before .before .number .ensures .0) (c .before .before .loop-test .taken) (c .before .word-at .ensures) (c .if2 .taken))
 
 add-e : tie.Need-add-e Inv-loop μ-loop
 add-e c = omega (arith, c .before .before .loop-test, c .before .before .before .before .number .ensures .1)
@@ -49,7 +50,7 @@ loop-again : tie.Need-loop-again Inv-loop μ-loop
 loop-again c = let l = c .before .before .before .loop in (omega (arith, c .before .before .loop-test), any-more (memory (c .before .before .before .before .before .before .before .before .before .before .before)) (l .e) _ (l .inv .1) (c .before .word-at .ensures) (c .if2 .left))
 
 returns-3 : tie.Need-returns-3 Inv-loop μ-loop
-returns-3 c = let l = c .before .loop in any-none (memory (c .before .before .before .before .before .before .before .before .before)) (sym (c .before .before .before .before .are .ensures) ∙ not-false _ (c .before .before .before .if1 .left)) _ (l .e) (c .before .before .number .ensures .0) (l .inv .0) (c .loop-test .left) (l .inv .1)
+returns-3 c = has-any (memory (c .before .before .before .before .before .before .before .before .before)) (let l = c .before .loop in any-none (memory (c .before .before .before .before .before .before .before .before .before)) (sym (c .before .before .before .before .are .ensures) ∙ not-false _ (c .before .before .before .if1 .left)) _ (l .e) (c .before .before .number .ensures .0) (l .inv .0) (c .loop-test .left) (l .inv .1))
 
 pub has-any-spec : {M : Type 1} → statement M
 has-any-spec =

@@ -1,4 +1,5 @@
 -- So far every part was inside its pool or not, and none or one had a member. Assumes nothing.
+use Rattle.idset.proofs.Promises.{is-empty}
 use borrow.Author.Needs.{needs}
 use Prim.Native.Nat.{_-_, _≤_}
 use mathlib.Core.Path.{_≡_, sym, _∙_}
@@ -27,7 +28,7 @@ are-requires : tie.Need-are-requires Inv-loop μ-loop
 are-requires c κs = search needs
 
 returns : tie.Need-returns Inv-loop μ-loop
-returns c = no-empty (memory (c .before .before .before .before .before .before)) (sym (c .before .are .ensures) ∙ not-true _ (c .if1 .taken))
+returns c = is-empty (memory (c .before .before .before .before .before .before)) (no-empty (memory (c .before .before .before .before .before .before)) (sym (c .before .are .ensures) ∙ not-true _ (c .if1 .taken)))
 
 number-requires : tie.Need-number-requires Inv-loop μ-loop
 number-requires c κs = sym (c .before .are .ensures) ∙ not-false _ (c .if1 .left)
@@ -48,10 +49,10 @@ loop-again : tie.Need-loop-again Inv-loop μ-loop
 loop-again c = let l = c .before .before .before .before .loop in (omega (arith, c .before .before .before .loop-test), all-more _ (l .e) _ _ (l .inv .1) (c .before .before .vacancy-at .ensures .0), all-more _ (l .e) _ _ (l .inv .2) (c .before .before .vacancy-at .ensures .1))
 
 returns-2 : tie.Need-returns-2 Inv-loop μ-loop
-returns-2 c = let l = c .before .before .loop in empty-is (memory (c .before .before .before .before .before .before .before .before .before .before)) _ (l .e) (c .before .before .before .number .ensures .0) (l .inv .0) (c .before .loop-test .left) (sym (c .before .before .before .before .before .are .ensures) ∙ not-false _ (c .before .before .before .before .if1 .left)) _ (l .inv .1) _ (l .inv .2) (c .if2 .taken)
+returns-2 c = is-empty (memory (c .before .before .before .before .before .before .before .before .before .before)) (let l = c .before .before .loop in empty-is (memory (c .before .before .before .before .before .before .before .before .before .before)) _ (l .e) (c .before .before .before .number .ensures .0) (l .inv .0) (c .before .loop-test .left) (sym (c .before .before .before .before .before .are .ensures) ∙ not-false _ (c .before .before .before .before .if1 .left)) _ (l .inv .1) _ (l .inv .2) (c .if2 .taken))
 
 returns-3 : tie.Need-returns-3 Inv-loop μ-loop
-returns-3 c = let l = c .before .before .loop in empty-bad (memory (c .before .before .before .before .before .before .before .before .before .before)) _ (l .e) (c .before .before .before .number .ensures .0) (l .inv .0) (c .before .loop-test .left) (sym (c .before .before .before .before .before .are .ensures) ∙ not-false _ (c .before .before .before .before .if1 .left)) _ (l .inv .1) (c .if2 .left)
+returns-3 c = is-empty (memory (c .before .before .before .before .before .before .before .before .before .before)) (let l = c .before .before .loop in empty-bad (memory (c .before .before .before .before .before .before .before .before .before .before)) _ (l .e) (c .before .before .before .number .ensures .0) (l .inv .0) (c .before .loop-test .left) (sym (c .before .before .before .before .before .are .ensures) ∙ not-false _ (c .before .before .before .before .if1 .left)) _ (l .inv .1) (c .if2 .left))
 
 pub is-empty-spec : {M : Type 1} → statement M
 is-empty-spec =

@@ -5,6 +5,7 @@ use Rattle.numbers.proofs.Signs.{hop}
 use Rattle.layout.specs.Mem.{Mem, memOf}
 use Rattle.idset.proofs.Shifts.{shift, shift-64, shift-no, shift-yes}
 use Rattle.idset.proofs.Gets.{chunk-bad, chunk-natural}
+use Rattle.idset.proofs.Promises.{chunk-of}
 use borrow.Author.Needs.{needs}
 use Rattle.idset.proofs.read.chunk_of.Statement.{statement}
 use Rattle.idset.proofs.read.chunk_of.Tie as tie
@@ -16,7 +17,7 @@ at-requires : tie.Need-at-requires
 at-requires c κs = search needs
 
 returns : tie.Need-returns
-returns c = let a = c .before .before .before .before .before .before in chunk-bad (memory a) (a .args .id) (shift-no (memory a) _ (c .before .at .ensures) (c .if1 .taken))
+returns c = chunk-of (memory (c .before .before .before .before .before .before)) (c .before .before .before .before .before .before .args .id) (let a = c .before .before .before .before .before .before in chunk-bad (memory a) (a .args .id) (shift-no (memory a) _ (c .before .at .ensures) (c .if1 .taken)))
 
 chunk-of-requires : tie.Need-chunk-of-requires
 chunk-of-requires c κs = shift-64 _ (shift _ (c .if1 .left))
@@ -28,10 +29,10 @@ enum-known-c : tie.Need-enum-known-c
 enum-known-c c = search needs
 
 returns-2 : tie.Need-returns-2
-returns-2 c = let a = c .before .before .before .before .before .before .before .before .before in chunk-natural (memory a) (a .args .id) _ (c .before .before .before .before .at .ensures) (shift-yes (memory a) _ (c .before .before .before .before .at .ensures) (c .before .before .before .if1 .left)) _ (sym (c .enum-told .given .1) ∙ c .before .before .chunk-of .ensures ∙ hop (chunkOf _) (a .args .id) (a .fits .id))
+returns-2 c = chunk-of (memory (c .before .before .before .before .before .before .before .before .before)) (c .before .before .before .before .before .before .before .before .before .args .id) (let a = c .before .before .before .before .before .before .before .before .before in chunk-natural (memory a) (a .args .id) _ (c .before .before .before .before .at .ensures) (shift-yes (memory a) _ (c .before .before .before .before .at .ensures) (c .before .before .before .if1 .left)) _ (sym (c .enum-told .given .1) ∙ c .before .before .chunk-of .ensures ∙ hop (chunkOf _) (a .args .id) (a .fits .id)))
 
 returns-3 : tie.Need-returns-3
-returns-3 c = let a = c .before .before .before .before .before .before .before .before .before .before in chunk-natural (memory a) (a .args .id) _ (c .before .before .before .before .before .at .ensures) (shift-yes (memory a) _ (c .before .before .before .before .before .at .ensures) (c .before .before .before .before .if1 .left)) _ (sym (c .before .c .given .1) ∙ c .before .before .before .chunk-of .ensures ∙ hop (chunkOf _) (a .args .id) (a .fits .id))
+returns-3 c = chunk-of (memory (c .before .before .before .before .before .before .before .before .before .before)) (c .before .before .before .before .before .before .before .before .before .before .args .id) (let a = c .before .before .before .before .before .before .before .before .before .before in chunk-natural (memory a) (a .args .id) _ (c .before .before .before .before .before .at .ensures) (shift-yes (memory a) _ (c .before .before .before .before .before .at .ensures) (c .before .before .before .before .if1 .left)) _ (sym (c .before .c .given .1) ∙ c .before .before .before .chunk-of .ensures ∙ hop (chunkOf _) (a .args .id) (a .fits .id)))
 
 pub chunk-of-spec : {M : Type 1} → statement M
 chunk-of-spec =

@@ -4,6 +4,7 @@ use Rattle.numbers.proofs.Signs.{hop}
 use Rattle.layout.specs.Mem.{Mem, memOf}
 use Rattle.calls.specs.Insert.{insertBy}
 use Rattle.inserts.proofs.Gates.{set-drops}
+use Rattle.inserts.proofs.Promises.{sets}
 use borrow.Author.Needs.{needs}
 use Rattle.inserts.proofs.insert.set.Statement.{statement}
 use Rattle.inserts.proofs.insert.set.Tie as tie
@@ -33,7 +34,7 @@ same-length-4 : tie.Need-same-length-4
 same-length-4 c = search needs
 
 returns : tie.Need-returns
-returns c = let a = c .before .before .before .before .before .before .before .before .before .before .before .before .before .before .before .before .before .before .before in set-drops _ _ _ _ (c .enum-told .given .1) (c .before .before .before .before .before .before .before .before .before .before .set-if-new .ensures ∙ hop (insertBy (memory a)) (a .args .id) (a .fits .id))
+returns c = let a = c .before .before .before .before .before .before .before .before .before .before .before .before .before .before .before .before .before .before .before in sets (memory a) (a .args .id) (a .fits .id) (set-drops _ _ _ _ (c .enum-told .given .1) (c .before .before .before .before .before .before .before .before .before .before .set-if-new .ensures .by ∙ hop (insertBy (memory a)) (a .args .id) (a .fits .id)))
 
 same-length-5 : tie.Need-same-length-5
 same-length-5 c = search needs
@@ -48,7 +49,7 @@ same-length-8 : tie.Need-same-length-8
 same-length-8 c = search needs
 
 returns-2 : tie.Need-returns-2
-returns-2 c = let a = c .before .before .before .before .before .before .before .before .before .before .before .before .before .before .before .before .before .before .before .before in set-drops _ _ _ _ (c .before .n .given .1) (c .before .before .before .before .before .before .before .before .before .before .before .set-if-new .ensures ∙ hop (insertBy (memory a)) (a .args .id) (a .fits .id))
+returns-2 c = let a = c .before .before .before .before .before .before .before .before .before .before .before .before .before .before .before .before .before .before .before .before in sets (memory a) (a .args .id) (a .fits .id) (set-drops _ _ _ _ (c .before .n .given .1) (c .before .before .before .before .before .before .before .before .before .before .before .set-if-new .ensures .by ∙ hop (insertBy (memory a)) (a .args .id) (a .fits .id)))
 
 pub set-spec : {M : Type 1} → statement M
 set-spec =

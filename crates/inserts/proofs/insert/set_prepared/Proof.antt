@@ -6,6 +6,7 @@ use Rattle.idset.proofs.Shifts.{Shift, shift-64, split-is, chunk-small}
 use Rattle.inserts.specs.Ready.{Ready}
 use Rattle.inserts.proofs.Readies.{ready-prepared}
 use Rattle.inserts.proofs.Gates.{open-shift, prepare-refused, prepared-negative, prepared-at}
+use Rattle.inserts.proofs.Promises.{sets-prepared}
 use borrow.Author.Needs.{needs}
 use Rattle.inserts.proofs.insert.set_prepared.Statement.{statement}
 use Rattle.inserts.proofs.insert.set_prepared.Tie as tie
@@ -30,7 +31,7 @@ same-length : tie.Need-same-length
 same-length c = search needs
 
 returns : tie.Need-returns
-returns c = let a = c .before .before .before .before .before .before .before in prepare-refused (memory a) (a .args .id) _ (c .before .refusal .ensures) (c .if1 .taken)
+returns c = let a = c .before .before .before .before .before .before .before in sets-prepared (memory a) (a .args .id) (a .fits .id) (prepare-refused (memory a) (a .args .id) _ (c .before .refusal .ensures) (c .if1 .taken))
 
 at-requires : tie.Need-at-requires
 at-requires c κs = search needs
@@ -48,7 +49,7 @@ same-length-2 : tie.Need-same-length-2
 same-length-2 c = search needs
 
 returns-2 : tie.Need-returns-2
-returns-2 c = let a = c .before .before .before .before .before .before .before .before .before .before .before .before in prepared-negative (memory a) (a .args .id) _ (c .before .before .before .before .before .before .refusal .ensures) (c .before .before .before .before .before .if1 .left) _ (c .before .before .before .at .ensures) (split-is _ (a .args .id) (a .fits .id) _ (c .before .before .split .ensures) _ (c .enum-told .given .1))
+returns-2 c = let a = c .before .before .before .before .before .before .before .before .before .before .before .before in sets-prepared (memory a) (a .args .id) (a .fits .id) (prepared-negative (memory a) (a .args .id) _ (c .before .before .before .before .before .before .refusal .ensures) (c .before .before .before .before .before .if1 .left) _ (c .before .before .before .at .ensures) (split-is _ (a .args .id) (a .fits .id) _ (c .before .before .split .ensures) _ (c .enum-told .given .1)))
 
 prepared-requires : tie.Need-prepared-requires
 prepared-requires c κs = let k = c .before .before .before .before in (shifted k .low, shifted k .high, k .before .before .before .before .at .ensures, small k .0, small k .1)
@@ -69,7 +70,7 @@ same-length-6 : tie.Need-same-length-6
 same-length-6 c = search needs
 
 returns-3 : tie.Need-returns-3
-returns-3 c = let k = c .before .before .before .before .before .before .before .before .before .before .before .before .before .before .before in let a = start k in c .before .before .before .before .before .before .act .ensures (memory a .blocks) ∙ prepared-at (memory a) (a .args .id) _ (k .before .before .before .before .before .before .before .refusal .ensures) (k .before .before .before .before .before .before .if1 .left) _ (k .before .before .before .before .at .ensures) _ _ (split-is _ (a .args .id) (a .fits .id) _ (k .before .before .before .split .ensures) _ (k .before .c .given .1)) _ (c .before .before .before .before .before .before .before .before .before .before .prepared .ensures)
+returns-3 c = let k = c .before .before .before .before .before .before .before .before .before .before .before .before .before .before .before in let a = start k in sets-prepared (memory a) (a .args .id) (a .fits .id) (c .before .before .before .before .before .before .act .ensures (memory a .blocks) ∙ prepared-at (memory a) (a .args .id) _ (k .before .before .before .before .before .before .before .refusal .ensures) (k .before .before .before .before .before .before .if1 .left) _ (k .before .before .before .before .at .ensures) _ _ (split-is _ (a .args .id) (a .fits .id) _ (k .before .before .before .split .ensures) _ (k .before .c .given .1)) _ (c .before .before .before .before .before .before .before .before .before .before .prepared .ensures))
 
 pub set-prepared-spec : {M : Type 1} → statement M
 set-prepared-spec =

@@ -7,6 +7,7 @@ use lib.ListN.{getD}
 use Rattle.calls.specs.Insert.{firstFree}
 use Rattle.inserts.proofs.Frees.{free-start, free-here, free-more, free-end}
 use borrow.Author.Needs.{needs}
+use borrow.Author.Needs.{needs}
 use Rattle.inserts.proofs.plan.first_free.Statement.{statement}
 use Rattle.inserts.proofs.plan.first_free.Tie as tie
 

@@ -1,0 +1,42 @@
+-- Demand 3, of the intervals that `ids` answers after a planning. Assumes nothing.
+use mathlib.Core.Path.{_≡_, sym, ap, subst, _∙_}
+use mathlib.Core.List.{List}
+use Prim.Native.Nat.{ℕ, _≤_, _<_}
+use lib.IntN.{ℤ}
+use Rattle.sums.specs.Ids.{Ids, total}
+use Rattle.sums.specs.Cuts.{size, parts, Interval, inside, part, held, Cutting}
+use Rattle.sums.specs.Planned.{Planned}
+use Rattle.sums.proofs.Theorems.{planned}
+use Rattle.layout.specs.Mem.{Mem}
+use Rattle.layout.specs.Meaning.{holds}
+use Rattle.cuts.specs.Plan.{planOf}
+use Rattle.cuts.specs.Promise.{Plans}
+use Rattle.cuts.specs.Spans.{intervalOf, spanAt}
+use Rattle.cuts.specs.declared.plan.Planning.the-variants.{Made}
+use Rattle.cuts.proofs.Intervals.{span-part, plans-bounded}
+
+-- n intervals that are those of a plan are a plan
+module _ (P : Ids) (S n : ℕ) (cut other : ℕ → Interval) (same : (k : ℕ) → k < n → cut k ≡ other k) where
+  within : (z : ℤ) (k : ℕ) → k < n → inside z (cut k) ≡ inside z (other k)
+  within z k l = ap (inside z) (same k l)
+
+  cutting-same : Cutting P S n other → Cutting P S n cut
+  cutting-same c = record {
+    covers = λ z f. let o = c .covers z f in (o .0, o .1, within z (o .0) (o .1) ∙ o .2);
+    small = λ k l. subst (λ (i : Interval). held P i ≤ size S) (sym (same k l)) (c .small k l);
+  }
+
+  planned-same : Planned P S n other → Planned P S n cut
+  planned-same p = record {
+    covers = λ z f. let o = p .covers z f in (o .0, o .1, within z (o .0) (o .1) ∙ o .2, λ j l h. o .3 j l (sym (within z j l) ∙ h));
+    members = λ z f e k l. rw (same k l) (p .members z f e k l);
+    counts = λ k l. ap (held P) (same k l) ∙ p .counts k l;
+    fewest = p .fewest;
+    cutting = cutting-same (p .cutting);
+  }
+
+-- whatever boundaries a planning left
+pub spans-planned : {x : Mem} {S : ℕ} {bs cs : List ℤ} → Plans x S bs (Made (planOf (total (holds x)) S)) cs
+    → Planned (holds x) S (parts (total (holds x)) S) (λ (k : ℕ). intervalOf (spanAt (planOf (total (holds x)) S) cs k))
+spans-planned {x} {S} {bs} {cs} p =
+    planned-same (holds x) S (parts (total (holds x)) S) (λ (k : ℕ). intervalOf (spanAt (planOf (total (holds x)) S) cs k)) (part (holds x) S) (span-part (holds x) S cs (plans-bounded p)) (planned (holds x) S)

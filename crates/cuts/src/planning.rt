@@ -1,0 +1,69 @@
+// Planning: boundaries go to a lent slice; total, S and partitions come back as a record.
+ghost use mathlib.Core.Path.{_≡_};
+ghost use Prim.Native.Nat.{_*_, _^_, _<_};
+ghost use Rattle.sums.specs.Cuts.{size};
+ghost use Rattle.layout.specs.Mem.{memOf};
+ghost use Rattle.layout.specs.Follows.{Follows};
+ghost use Rattle.cuts.specs.Plan.{boundsTo, cut, planBy};
+ghost use Rattle.cuts.specs.Promise.{Plans};
+use crate::bound;
+use crate::plan::Plan;
+use crate::plan::Planning;
+use crate::round;
+use crate::search;
+use layout::walk;
+use numbers::order;
+use numbers::place as element;
+
+// Boundaries 1 to n.
+fn fill(
+    pages: &[u64],
+    rows: &[u32],
+    blocks: &[u32],
+    table: &[u64],
+    s: u64,
+    n: u64,
+    bounds: &mut [i64],
+)
+    requires { ⌜ n * size s < 2 ^ 64 ⌝ }
+    ensures { λ _. ⌜ now (bounds .exit) ≡ boundsTo (memOf (pages .entry) (rows .entry) (blocks .entry) (table .entry)) s (now (bounds .entry)) n ⌝ }
+{
+    let slots = order::greatest_of(1, s);
+    let mut k: u64 = 0;
+    while k < n {
+        let b = search::boundary(pages, rows, blocks, table, (k + 1) * slots);
+        bound::put(bounds, k, b);
+        k += 1;
+    }
+}
+
+// Cuts a ranked set into partitions of at most s members. Nothing is written before it is known that all of it will be.
+pub fn plan(
+    pages: &[u64],
+    rows: &[u32],
+    blocks: &[u32],
+    table: &[u64],
+    s: u64,
+    bounds: &mut [i64],
+) -> Planning
+    ensures by { λ a. ⌜ cut a (now (bounds .exit)) ≡ planBy (memOf (pages .entry) (rows .entry) (blocks .entry) (table .entry)) s (now (bounds .entry)) ⌝ }
+    ensures says { λ a. ⌜ (Follows (memOf (pages .entry) (rows .entry) (blocks .entry) (table .entry)) → Plans (memOf (pages .entry) (rows .entry) (blocks .entry) (table .entry)) s (now (bounds .entry)) a (now (bounds .exit))) ⌝ }
+{
+    if !walk::walk(pages, rows, blocks, table) {
+        return Planning::Refused(3);
+    }
+    if element::at(table, 6) != 1 {
+        return Planning::Refused(5);
+    }
+    let total = element::at(table, 8);
+    let n = round::parts(total, s);
+    if (bounds.len() as u64) < n - 1 {
+        return Planning::Refused(11);
+    }
+    fill(pages, rows, blocks, table, s, n - 1, bounds);
+    Planning::Made(Plan {
+        total,
+        slots: order::greatest_of(1, s),
+        partitions: n,
+    })
+}

@@ -1,0 +1,100 @@
+-- Ranks, way by way, and what a customer reads of them. Assumes nothing.
+use mathlib.Core.Path.{_≡_, sym, ap, _∙_}
+use mathlib.Core.Bool.{Bool, true, false, cond, not}
+use Prim.Native.Nat.{ℕ, _^_, _≤_, _<_}
+use native.Mathlib.Nat.{lt-of-lt-of-le}
+use native.Mathlib.Omega.{arith}
+use lib.IntN.{ℤ}
+use lib.ListN.{getD}
+use lib.Pow.{pow-mono}
+use borrow.Author.Tests.{not-true, not-false}
+use mir.Syntax.{w64}
+use mir.Val.{SFits, ofZ, toZ}
+use Rattle.numbers.specs.Ids.{splitOf}
+use Rattle.numbers.specs.declared.Split.{Split}
+use Rattle.numbers.specs.declared.Split.the-variants as split
+use Rattle.numbers.proofs.Signs.{hop}
+use Rattle.numbers.proofs.Splits.{split-lies, lies-below}
+use Rattle.layout.specs.Mem.{Mem}
+use Rattle.layout.specs.Sizes.{totalAt}
+use Rattle.layout.specs.declared.answer.Amount.{Amount}
+use Rattle.layout.specs.declared.answer.Amount.the-variants as amount
+use Rattle.layout.specs.declared.answer.Perhaps.{Perhaps}
+use Rattle.layout.specs.declared.answer.Perhaps.the-variants as perhaps
+use Rattle.calls.specs.Reading.{spotBy}
+use Rattle.ranks.specs.Rank.{belowAt, plus, rankSeat, rankSplit, ifRanked, rankBy, hasSpot, perhapsOf, rankIfSeat, rankIfSplit, rankIfBy, totalBy}
+use Rattle.ranks.specs.declared.Seat.{Seat}
+use Rattle.ranks.specs.declared.Seat.the-variants as seat
+use Rattle.ranks.proofs.Ranks.{rank-is, rank-if-is, total-is}
+use Rattle.ranked.specs.Modes.{formIn}
+use Rattle.ranked.specs.Answers.{RankOf, RankIfOf, TotalOf}
+use Rattle.ranked.specs.declared.mode.Form.{Form}
+use Rattle.ranked.specs.declared.mode.Form.the-variants.{Ranked}
+use Rattle.ranked.proofs.Modes.{byForm, form-way}
+
+-- ---- where an id lies
+
+-- what `split` answered, of the id itself
+module _ (s : ℕ) (z : ℤ) (f : SFits w64 z) (r : Split) (e : r ≡ splitOf s (toZ w64 (ofZ w64 z))) where
+  pub split-is : (q : Split) → r ≡ q → q ≡ splitOf s z
+  split-is q g = sym g ∙ (e ∙ hop (splitOf s) z f)
+
+  pub chunk-small : (c o : ℕ) → 9 ≤ s → s ≤ 25 → r ≡ split.At c o → (c < 2 ^ 62) × (o < 2 ^ s)
+  chunk-small c o low high g =
+      let l = split-lies s z c o (split-is (split.At c o) g) in
+      (lt-of-lt-of-le (lies-below s z c o (omega arith) f l) (pow-mono {j = 62} (omega arith)), l .within)
+
+-- ---- by a chunk's seat
+
+module _ (x : Mem) (o : ℕ) (q : Seat) (w first : ℕ) (e : seat.At w first ≡ q) where
+  pub rank-seat : (a r : Amount) → a ≡ belowAt x o (spotBy x w) → r ≡ plus first a → r ≡ rankSeat x o q
+  rank-seat a r f g = g ∙ (ap (plus first) f ∙ ap (rankSeat x o) e)
+
+  module _ (b : Bool) (f : b ≡ hasSpot x o (spotBy x w)) where
+    by-member : Bool → Perhaps
+    by-member d = cond d (perhapsOf (plus first (belowAt x o (spotBy x w)))) perhaps.Nothing
+
+    pub seat-none : not b ≡ true → perhaps.Nothing ≡ rankIfSeat x o q
+    unfolding by-member
+    seat-none h = ap by-member (sym (not-true _ h) ∙ f) ∙ ap (rankIfSeat x o) e
+
+    pub seat-member : not b ≡ false → (a r : Amount) (p : Perhaps) → a ≡ belowAt x o (spotBy x w) → r ≡ plus first a → p ≡ perhapsOf r → p ≡ rankIfSeat x o q
+    unfolding by-member
+    seat-member h a r p i j k = k ∙ (ap perhapsOf (j ∙ ap (plus first) i) ∙ (ap by-member (sym (not-false _ h) ∙ f) ∙ ap (rankIfSeat x o) e))
+
+-- ---- the calls
+
+-- on a ranked set, by where the id lies
+split-way : {A : Type 0} (refuse : ℕ → A) (g : Split → A) (x : Mem) (z : ℤ) → formIn (x .table) ≡ Ranked → (s : ℕ) → s ≡ getD (x .table) 0 0 → (q : Split) → q ≡ splitOf s z → g q ≡ ifRanked (x .table) refuse (g (splitOf (getD (x .table) 0 0) z))
+split-way refuse g x z f s e q h = ap g (h ∙ ap (λ (k : ℕ). splitOf k z) e) ∙ form-way (x .table) refuse (g (splitOf (getD (x .table) 0 0) z)) Ranked f
+
+module _ (x : Mem) (z : ℤ) where
+  pub rank-of : (a : Amount) → a ≡ rankBy x z → RankOf x z a
+  rank-of a e = record { by = e; says = λ w. e ∙ rank-is w z }
+
+  pub rank-form : (k : Form) → formIn (x .table) ≡ k → byForm amount.Refused (rankSplit x (splitOf (getD (x .table) 0 0) z)) k ≡ rankBy x z
+  unfolding rankBy
+  rank-form = form-way (x .table) amount.Refused (rankSplit x (splitOf (getD (x .table) 0 0) z))
+
+  pub rank-split : formIn (x .table) ≡ Ranked → (s : ℕ) → s ≡ getD (x .table) 0 0 → (q : Split) → q ≡ splitOf s z → rankSplit x q ≡ rankBy x z
+  unfolding rankBy
+  rank-split = split-way amount.Refused (rankSplit x) x z
+
+  pub rank-if-of : (a : Perhaps) → a ≡ rankIfBy x z → RankIfOf x z a
+  rank-if-of a e = record { by = e; says = λ w. e ∙ rank-if-is w z }
+
+  pub rank-if-form : (k : Form) → formIn (x .table) ≡ k → byForm perhaps.Refused (rankIfSplit x (splitOf (getD (x .table) 0 0) z)) k ≡ rankIfBy x z
+  unfolding rankIfBy
+  rank-if-form = form-way (x .table) perhaps.Refused (rankIfSplit x (splitOf (getD (x .table) 0 0) z))
+
+  pub rank-if-split : formIn (x .table) ≡ Ranked → (s : ℕ) → s ≡ getD (x .table) 0 0 → (q : Split) → q ≡ splitOf s z → rankIfSplit x q ≡ rankIfBy x z
+  unfolding rankIfBy
+  rank-if-split = split-way perhaps.Refused (rankIfSplit x) x z
+
+module _ (x : Mem) where
+  total-form : (k : Form) → formIn (x .table) ≡ k → byForm amount.Refused (amount.Of (totalAt (x .table))) k ≡ totalBy x
+  unfolding totalBy
+  total-form = form-way (x .table) amount.Refused (amount.Of (totalAt (x .table)))
+
+  pub total-of : (k : Form) (a : Amount) → formIn (x .table) ≡ k → a ≡ byForm amount.Refused (amount.Of (totalAt (x .table))) k → TotalOf x a
+  total-of k a e f = let g = f ∙ total-form k e in record { by = g; says = λ w. g ∙ total-is w }

@@ -1,0 +1,114 @@
+-- Ranking and leaving it: all that is written, the ways to an answer, and what a customer reads. Assumes nothing.
+use mathlib.Core.Path.{_≡_, refl, sym, ap, ap₂, subst, _∙_}
+use mathlib.Core.List.{List}
+use mathlib.Core.Bool.{Bool, true, false, cond}
+use Prim.Native.Nat.{ℕ, _*_, _≤_}
+use native.Mathlib.Omega.{arith}
+use lib.Dec.{eqb}
+use Rattle.sums.specs.Sums.{sumTo}
+use Rattle.layout.specs.Mem.{Mem, mem}
+use Rattle.layout.specs.Sizes.{blocksOf, head, modeAt, overCount}
+use Rattle.layout.specs.Entries.{entries, placeAt}
+use Rattle.layout.specs.Follows.{Owned, membersAt}
+use Rattle.layout.specs.Tests.{Walked, walked}
+use Rattle.layout.specs.SetUp.{Did, did, zeroed}
+use Rattle.layout.specs.declared.head.Header.{Header}
+use Rattle.layout.specs.declared.place.Place.{Place}
+use Rattle.layout.specs.declared.place.Place.the-variants.{Absent, Sparse, Dense}
+use Rattle.layout.specs.declared.answer.Outcome.{Outcome}
+use Rattle.layout.specs.declared.answer.Outcome.the-variants.{Done, Refused}
+use Rattle.ranks.specs.Form.{prefixed, marked, blockedTo, toRanked, toOpen, rankUpBy, openBy}
+use Rattle.ranks.specs.Promise.{Turns, rankUpAnswer, openAnswer}
+use Rattle.ranks.proofs.Forms.{rank-up-says, open-says}
+use Rattle.ranked.specs.Modes.{formOf}
+use Rattle.ranked.specs.Counts.{entrySize, Inside, Places}
+use Rattle.ranked.specs.Answers.{RankedUp, Opened}
+use Rattle.ranked.specs.declared.mode.Form.{Form}
+use Rattle.ranked.specs.declared.mode.Form.the-variants.{Open, Ranked, Bad}
+use Rattle.ranked.proofs.Modes.{form-walked}
+
+-- ---- what the walk found
+
+owned-inside : (h : Header) (t : List ℕ) (c : ℕ) (p : Place) → Owned h t c p → Inside h p
+owned-inside h t c Absent o = tt
+owned-inside h t c (Sparse r l) o = o .short
+owned-inside h t c (Dense p) o = o .there
+
+pub walked-places : {x : Mem} {h : Header} → Walked x h → Places h (x .table)
+walked-places {x} {h} w = record { at = λ e l. owned-inside h (x .table) _ (placeAt h (x .table) e) (w .places e l) }
+
+pub walked-over : {x : Mem} {h : Header} → Walked x h → overCount (x .table) ≤ 65536
+walked-over w = let z = w .sizes in let f = w .over-fits in omega arith
+
+-- ---- what is written
+
+pub all-counted : (h : Header) (x : Mem) (bl t u : List ℕ) (n : ℕ) → bl ≡ blockedTo h (x .pages) (x .blocks) (h .p) → n ≡ sumTo (entrySize h (x .pages) (x .table)) (entries h (x .table))
+    → t ≡ prefixed h (x .table) (sumTo (entrySize h (x .pages) (x .table))) (entries h (x .table)) → u ≡ marked t 1 n → mem (x .pages) (x .rows) bl u ≡ toRanked h x
+unfolding toRanked entrySize membersAt
+all-counted h x bl t u n eb en et eu = ap₂ (λ (b v : List ℕ). mem (x .pages) (x .rows) b v) eb (eu ∙ ap₂ (λ (v : List ℕ) (k : ℕ). marked v 1 k) et en)
+
+pub all-cleared : (h : Header) (x : Mem) (a : ℕ) (bl t u : List ℕ) → a ≡ h .p * blocksOf h → bl ≡ zeroed a (x .blocks) → t ≡ prefixed h (x .table) (λ (_ : ℕ). 0) (entries h (x .table)) → u ≡ marked t 0 0 → mem (x .pages) (x .rows) bl u ≡ toOpen h x
+unfolding toOpen
+all-cleared h x a bl t u ea eb et eu = ap₂ (λ (b v : List ℕ). mem (x .pages) (x .rows) b v) (eb ∙ ap (λ (k : ℕ). zeroed k (x .blocks)) ea) (eu ∙ ap (λ (v : List ℕ). marked v 0 0) et)
+
+-- ---- the answers
+
+module _ (x : Mem) where
+  abbrev upBy : Form → Did
+  upBy Bad = did (Refused 3) x
+  upBy Ranked = did (Refused 4) x
+  upBy Open = did Done (toRanked (head x) x)
+
+  abbrev downBy : Form → Did
+  downBy Bad = did (Refused 3) x
+  downBy Ranked = did Done (toOpen (head x) x)
+  downBy Open = did (Refused 5) x
+
+  up-form : (k : Form) → formOf x ≡ k → upBy k ≡ rankUpBy x
+  unfolding formOf rankUpBy
+  up-form k e = ap upBy (sym e) ∙ go (walked x) (eqb (modeAt (x .table)) 1)
+    where
+      go : (g d : Bool) → upBy (cond g (cond d Ranked Open) Bad) ≡ cond g (cond d (did (Refused 4) x) (did Done (toRanked (head x) x))) (did (Refused 3) x)
+      go true true = refl
+      go true false = refl
+      go false d = refl
+
+  down-form : (k : Form) → formOf x ≡ k → downBy k ≡ openBy x
+  unfolding formOf openBy
+  down-form k e = ap downBy (sym e) ∙ go (walked x) (eqb (modeAt (x .table)) 1)
+    where
+      go : (g d : Bool) → downBy (cond g (cond d Ranked Open) Bad) ≡ cond g (cond d (did Done (toOpen (head x) x)) (did (Refused 5) x)) (did (Refused 3) x)
+      go true true = refl
+      go true false = refl
+      go false d = refl
+
+  ranked-up : (a : Outcome) (y : Mem) → did a y ≡ rankUpBy x → RankedUp x a y
+  ranked-up a y e = record { by = e; says = λ w. subst (λ (d : Did). Turns x (rankUpAnswer x) true (d .answer) (d .after)) (sym e) (rank-up-says w) }
+
+  opened : (a : Outcome) (y : Mem) → did a y ≡ openBy x → Opened x a y
+  opened a y e = record { by = e; says = λ w. subst (λ (d : Did). Turns x (openAnswer x) false (d .answer) (d .after)) (sym e) (open-says w) }
+
+  pub up-bad : formOf x ≡ Bad → RankedUp x (Refused 3) x
+  up-bad e = ranked-up (Refused 3) x (up-form Bad e)
+
+  pub up-ranked : formOf x ≡ Ranked → RankedUp x (Refused 4) x
+  up-ranked e = ranked-up (Refused 4) x (up-form Ranked e)
+
+  pub up-open : formOf x ≡ Open → (h : Header) (y : Mem) → h ≡ head x → y ≡ toRanked h x → RankedUp x Done y
+  up-open e h y f g = ranked-up Done y (ap (did Done) (g ∙ ap (λ (k : Header). toRanked k x) f) ∙ up-form Open e)
+
+  pub down-bad : formOf x ≡ Bad → Opened x (Refused 3) x
+  down-bad e = opened (Refused 3) x (down-form Bad e)
+
+  pub down-open : formOf x ≡ Open → Opened x (Refused 5) x
+  down-open e = opened (Refused 5) x (down-form Open e)
+
+  pub down-ranked : formOf x ≡ Ranked → (h : Header) (y : Mem) → h ≡ head x → y ≡ toOpen h x → Opened x Done y
+  down-ranked e h y f g = opened Done y (ap (did Done) (g ∙ ap (λ (k : Header). toOpen k x) f) ∙ down-form Ranked e)
+
+  -- the walk found nothing wrong
+  pub open-walked : formOf x ≡ Open → (h : Header) → h ≡ head x → Walked x h
+  open-walked e h f = subst (Walked x) (sym f) (form-walked x Open e (λ (q : Open ≡ Bad). let z : _≡_ {A = ℕ} 0 1 = cc in omega arith))
+
+  pub ranked-walked : formOf x ≡ Ranked → (h : Header) → h ≡ head x → Walked x h
+  ranked-walked e h f = subst (Walked x) (sym f) (form-walked x Ranked e (λ (q : Ranked ≡ Bad). let z : _≡_ {A = ℕ} 0 1 = cc in omega arith))

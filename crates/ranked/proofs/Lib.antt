@@ -1,0 +1,8 @@
+pub mod Modes
+pub mod Seats
+pub mod Parts
+pub mod Belows
+pub mod Answers
+pub mod Counting
+pub mod Writing
+pub mod Forms

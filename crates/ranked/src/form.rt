@@ -1,0 +1,62 @@
+// `into_ranked`, and leaving the ranked form.
+ghost use mathlib.Core.Path.{_≡_};
+ghost use Rattle.layout.specs.Mem.{memOf};
+ghost use Rattle.layout.specs.Tests.{Walked};
+ghost use Rattle.ranks.specs.Form.{toRanked, toOpen};
+ghost use Rattle.ranked.specs.Answers.{RankedUp, Opened};
+use crate::blocks;
+use crate::mode;
+use crate::mode::Form;
+use crate::prefixes;
+use layout::answer::Outcome;
+use layout::head;
+use layout::head::Header;
+use layout::setup;
+
+// Counts every block, then every entry.
+fn count_all(h: Header, pages: &[u64], rows: &[u32], blocks: &mut [u32], table: &mut [u64])
+    requires { ⌜ Walked (memOf pages rows blocks table) h ⌝ }
+    ensures { λ _. ⌜ memOf (pages .entry) (rows .entry) (blocks .exit) (table .exit) ≡ toRanked h (memOf (pages .entry) (rows .entry) (blocks .entry) (table .entry)) ⌝ }
+{
+    blocks::count_pages(h, pages, blocks);
+    let n = prefixes::put_prefixes(h, pages, blocks, table);
+    prefixes::mark(table, 1, n);
+}
+
+// Clears what ranking counted.
+fn clear_all(h: Header, pages: &[u64], rows: &[u32], blocks: &mut [u32], table: &mut [u64])
+    requires { ⌜ Walked (memOf pages rows blocks table) h ⌝ }
+    ensures { λ _. ⌜ memOf (pages .entry) (rows .entry) (blocks .exit) (table .exit) ≡ toOpen h (memOf (pages .entry) (rows .entry) (blocks .entry) (table .entry)) ⌝ }
+{
+    setup::zero32(blocks, head::block_at(h, h.p) as usize);
+    prefixes::clear_prefixes(h, table);
+    prefixes::mark(table, 0, 0);
+}
+
+// An open set becomes a ranked one.
+pub fn into_ranked(pages: &[u64], rows: &[u32], blocks: &mut [u32], table: &mut [u64]) -> Outcome
+    ensures { λ r. ⌜ RankedUp (memOf (pages .entry) (rows .entry) (blocks .entry) (table .entry)) r (memOf (pages .entry) (rows .entry) (blocks .exit) (table .exit)) ⌝ }
+{
+    match mode::form_of(pages, rows, blocks, table) {
+        Form::Bad => Outcome::Refused(3),
+        Form::Ranked => Outcome::Refused(4),
+        Form::Open => {
+            count_all(head::read(table), pages, rows, blocks, table);
+            Outcome::Done
+        }
+    }
+}
+
+// A ranked set becomes an open one.
+pub fn into_open(pages: &[u64], rows: &[u32], blocks: &mut [u32], table: &mut [u64]) -> Outcome
+    ensures { λ r. ⌜ Opened (memOf (pages .entry) (rows .entry) (blocks .entry) (table .entry)) r (memOf (pages .entry) (rows .entry) (blocks .exit) (table .exit)) ⌝ }
+{
+    match mode::form_of(pages, rows, blocks, table) {
+        Form::Bad => Outcome::Refused(3),
+        Form::Open => Outcome::Refused(5),
+        Form::Ranked => {
+            clear_all(head::read(table), pages, rows, blocks, table);
+            Outcome::Done
+        }
+    }
+}

@@ -1,0 +1,76 @@
+// Prefixes: beside each entry, the members of the entries before it.
+ghost use mathlib.Core.Path.{_≡_};
+ghost use Prim.Native.Nat.{_*_, _≤_, _<_};
+ghost use lib.ListN.{length, set};
+ghost use Rattle.sums.specs.Sums.{sumTo};
+ghost use Rattle.layout.specs.Sizes.{InRange, wide, overCount};
+ghost use Rattle.layout.specs.Entries.{entries, placeAt};
+ghost use Rattle.ranks.specs.Form.{prefixPlace, prefixed, marked};
+ghost use Rattle.ranked.specs.Counts.{entrySize, Told, Inside, Places};
+use crate::blocks;
+use layout::entry;
+use layout::head::Header;
+use layout::place::Place;
+use numbers::place as element;
+
+// The prefix of entry e.
+pub fn put_prefix(table: &mut [u64], h: Header, e: u64, v: u64)
+    requires { ⌜ InRange h × (e ≤ 327680) ⌝ }
+    ensures { λ _. ⌜ now (table .exit) ≡ set (now (table .entry)) (prefixPlace h e) v ⌝ }
+{
+    if e < h.d {
+        element::put(table, 16 + 2 * e + 1, v);
+    } else {
+        element::put(table, 16 + 2 * h.d + 3 * (e - h.d) + 2, v);
+    }
+}
+
+// The members of entry e.
+pub fn entry_size(h: Header, pages: &[u64], counts: &[u32], table: &[u64], e: u64) -> u64
+    requires { ⌜ InRange h × (e ≤ 327680) × (h .p * wide h ≤ length (now pages)) × Told h (now pages) (now counts) × Inside h (placeAt h (now table) e) ⌝ }
+    ensures { λ r. ⌜ r ≡ entrySize h (now (pages .entry)) (now (table .entry)) e ⌝ }
+{
+    match entry::place_at(table, h, e) {
+        Place::Absent => 0,
+        Place::Sparse(_, l) => l,
+        Place::Dense(p) => blocks::page_size(h, pages, counts, p),
+    }
+}
+
+// All of them, and the total.
+pub fn put_prefixes(h: Header, pages: &[u64], counts: &[u32], table: &mut [u64]) -> u64
+    requires { ⌜ InRange h × (overCount (now table) ≤ 65536) × (h .p * wide h ≤ length (now pages)) × Told h (now pages) (now counts) × Places h (now table) ⌝ }
+    ensures { λ r. ⌜ (r ≡ sumTo (entrySize h (now (pages .entry)) (now (table .entry))) (entries h (now (table .entry)))) × (now (table .exit) ≡ prefixed h (now (table .entry)) (sumTo (entrySize h (now (pages .entry)) (now (table .entry)))) (entries h (now (table .entry)))) ⌝ }
+{
+    let n = h.d + element::at(table, 7);
+    let mut sum: u64 = 0;
+    let mut e: u64 = 0;
+    while e < n {
+        let k = entry_size(h, pages, counts, table, e);
+        put_prefix(table, h, e, sum);
+        sum += k;
+        e += 1;
+    }
+    sum
+}
+
+// None of them.
+pub fn clear_prefixes(h: Header, table: &mut [u64])
+    requires { ⌜ InRange h × (overCount (now table) ≤ 65536) ⌝ }
+    ensures { λ _. ⌜ now (table .exit) ≡ prefixed h (now (table .entry)) (λ _. 0) (entries h (now (table .entry))) ⌝ }
+{
+    let n = h.d + element::at(table, 7);
+    let mut e: u64 = 0;
+    while e < n {
+        put_prefix(table, h, e, 0);
+        e += 1;
+    }
+}
+
+// The mode and the total.
+pub fn mark(table: &mut [u64], mode: u64, total: u64)
+    ensures { λ _. ⌜ now (table .exit) ≡ marked (now (table .entry)) mode total ⌝ }
+{
+    element::put(table, 8, total);
+    element::put(table, 6, mode);
+}

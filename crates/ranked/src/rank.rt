@@ -1,0 +1,117 @@
+// Ranks of a ranked set: `rank`, `rank_if_set`, `total_count`.
+ghost use mathlib.Core.Path.{_≡_};
+ghost use Prim.Native.Nat.{_^_, _≤_, _<_};
+ghost use lib.ListN.{getD};
+ghost use Rattle.layout.specs.Mem.{memOf};
+ghost use Rattle.ranks.specs.Rank.{seatIn, rankSeat, rankIfSeat, perhapsOf};
+ghost use Rattle.ranked.specs.Answers.{RankOf, RankIfOf, TotalOf};
+use crate::chunk;
+use crate::mode;
+use crate::mode::Form;
+use crate::seat;
+use layout::answer::Amount;
+use layout::answer::Perhaps;
+use numbers::Split;
+use numbers::id as ids;
+use numbers::place as element;
+use ranks::Seat;
+
+// Members below offset o of chunk c: one entry with its prefix, then the chunk itself.
+fn rank_at(
+    pages: &[u64],
+    rows: &[u32],
+    blocks: &[u32],
+    table: &[u64],
+    s: u64,
+    c: u64,
+    o: u64,
+) -> Amount
+    requires { ⌜ (9 ≤ s) × (s ≤ 25) × (s ≡ getD (now table) 0 0) × (c < 2 ^ 62) × (o < 2 ^ s) ⌝ }
+    ensures { λ r. ⌜ r ≡ rankSeat (memOf (pages .entry) (rows .entry) (blocks .entry) (table .entry)) o (seatIn (now (table .entry)) c) ⌝ }
+{
+    match seat::seat_of(table, c) {
+        Seat::Bad => Amount::Refused(3),
+        Seat::At(w, before) => {
+            chunk::after(before, chunk::below(pages, rows, blocks, table, s, w, o))
+        }
+    }
+}
+
+// A rank is an answer, and so is its refusal.
+fn perhaps(a: Amount) -> Perhaps
+    ensures { λ r. ⌜ r ≡ perhapsOf a ⌝ }
+{
+    match a {
+        Amount::Of(k) => Perhaps::Of(k),
+        Amount::Refused(c) => Perhaps::Refused(c),
+    }
+}
+
+// The same where the offset is a member, else none.
+fn rank_if_at(
+    pages: &[u64],
+    rows: &[u32],
+    blocks: &[u32],
+    table: &[u64],
+    s: u64,
+    c: u64,
+    o: u64,
+) -> Perhaps
+    requires { ⌜ (9 ≤ s) × (s ≤ 25) × (s ≡ getD (now table) 0 0) × (c < 2 ^ 62) × (o < 2 ^ s) ⌝ }
+    ensures { λ r. ⌜ r ≡ rankIfSeat (memOf (pages .entry) (rows .entry) (blocks .entry) (table .entry)) o (seatIn (now (table .entry)) c) ⌝ }
+{
+    match seat::seat_of(table, c) {
+        Seat::Bad => Perhaps::Refused(3),
+        Seat::At(w, before) => {
+            if !chunk::has(pages, rows, blocks, table, s, w, o) {
+                return Perhaps::Nothing;
+            }
+            perhaps(chunk::after(before, chunk::below(pages, rows, blocks, table, s, w, o)))
+        }
+    }
+}
+
+// The members strictly below an id, 0 for an id of 0 or less.
+pub fn rank(pages: &[u64], rows: &[u32], blocks: &[u32], table: &[u64], id: i64) -> Amount
+    ensures { λ r. ⌜ RankOf (memOf (pages .entry) (rows .entry) (blocks .entry) (table .entry)) id r ⌝ }
+{
+    match mode::form_in(table) {
+        Form::Bad => Amount::Refused(3),
+        Form::Open => Amount::Refused(5),
+        Form::Ranked => {
+            let s = element::at(table, 0);
+            match ids::split(id, s) {
+                Split::Negative => Amount::Of(0),
+                Split::At(c, o) => rank_at(pages, rows, blocks, table, s, c, o),
+            }
+        }
+    }
+}
+
+// A member's rank, none for another id.
+pub fn rank_if_set(pages: &[u64], rows: &[u32], blocks: &[u32], table: &[u64], id: i64) -> Perhaps
+    ensures { λ r. ⌜ RankIfOf (memOf (pages .entry) (rows .entry) (blocks .entry) (table .entry)) id r ⌝ }
+{
+    match mode::form_in(table) {
+        Form::Bad => Perhaps::Refused(3),
+        Form::Open => Perhaps::Refused(5),
+        Form::Ranked => {
+            let s = element::at(table, 0);
+            match ids::split(id, s) {
+                Split::Negative => Perhaps::Nothing,
+                Split::At(c, o) => rank_if_at(pages, rows, blocks, table, s, c, o),
+            }
+        }
+    }
+}
+
+// The members, as ranking counted them.
+pub fn total_count(pages: &[u64], rows: &[u32], blocks: &[u32], table: &[u64]) -> Amount
+    ensures { λ r. ⌜ TotalOf (memOf (pages .entry) (rows .entry) (blocks .entry) (table .entry)) r ⌝ }
+{
+    match mode::form_in(table) {
+        Form::Bad => Amount::Refused(3),
+        Form::Open => Amount::Refused(5),
+        Form::Ranked => Amount::Of(element::at(table, 8)),
+    }
+}
