@@ -13,6 +13,14 @@ use layout::head::Header;
 use layout::place::Place;
 use numbers::place as element;
 
+// How many entries there are.
+pub fn entry_count(table: &[u64], h: Header) -> u64
+    requires { ⌜ InRange h × (overCount (now table) ≤ 65536) ⌝ }
+    ensures { λ n. ⌜ (n ≡ entries h (now (table .entry))) × (n ≤ 327680) ⌝ }
+{
+    h.d + element::at(table, 7)
+}
+
 // The prefix of entry e.
 pub fn put_prefix(table: &mut [u64], h: Header, e: u64, v: u64)
     requires { ⌜ InRange h × (e ≤ 327680) ⌝ }
@@ -42,7 +50,7 @@ pub fn put_prefixes(h: Header, pages: &[u64], counts: &[u32], table: &mut [u64])
     requires { ⌜ InRange h × (overCount (now table) ≤ 65536) × (h .p * wide h ≤ length (now pages)) × Told h (now pages) (now counts) × Places h (now table) ⌝ }
     ensures { λ r. ⌜ (r ≡ sumTo (entrySize h (now (pages .entry)) (now (table .entry))) (entries h (now (table .entry)))) × (now (table .exit) ≡ prefixed h (now (table .entry)) (sumTo (entrySize h (now (pages .entry)) (now (table .entry)))) (entries h (now (table .entry)))) ⌝ }
 {
-    let n = h.d + element::at(table, 7);
+    let n = entry_count(table, h);
     let mut sum: u64 = 0;
     let mut e: u64 = 0;
     while e < n {
@@ -59,7 +67,7 @@ pub fn clear_prefixes(h: Header, table: &mut [u64])
     requires { ⌜ InRange h × (overCount (now table) ≤ 65536) ⌝ }
     ensures { λ _. ⌜ now (table .exit) ≡ prefixed h (now (table .entry)) (λ _. 0) (entries h (now (table .entry))) ⌝ }
 {
-    let n = h.d + element::at(table, 7);
+    let n = entry_count(table, h);
     let mut e: u64 = 0;
     while e < n {
         put_prefix(table, h, e, 0);

@@ -5,7 +5,6 @@ use native.Mathlib.Omega.{arith}
 use Rattle.layout.specs.Entries.{entries}
 use Rattle.ranks.specs.Form.{prefixed}
 use Rattle.ranked.proofs.Writing.{Written, written-start, written-more}
-use borrow.Author.Needs.{needs}
 use Rattle.ranked.proofs.prefixes.clear_prefixes.Statement.{statement}
 use Rattle.ranked.proofs.prefixes.clear_prefixes.Tie as tie
 
@@ -15,20 +14,17 @@ Inv-loop h table₀ n e₀ table e = Written h table₀ (λ (_ : ℕ). 0) n tabl
 abbrev μ-loop : tie.MeasureT-loop
 μ-loop h table₀ n e₀ table e = n - e
 
-at-requires : tie.Need-at-requires Inv-loop μ-loop
-at-requires c κs = search needs
-
-add-n : tie.Need-add-n Inv-loop μ-loop
-add-n c = omega (arith, c .before .at .ensures, c .before .before .before .before .pre .1, c .before .before .before .before .pre .0 .d-high)
+entry-count-requires : tie.Need-entry-count-requires Inv-loop μ-loop
+entry-count-requires c κs = c .before .before .pre
 
 loop-holds : tie.Need-loop-holds Inv-loop μ-loop
 loop-holds c = written-start _ _ _ _
 
 put-prefix-requires : tie.Need-put-prefix-requires Inv-loop μ-loop
-put-prefix-requires c κs = let a = c .before .before .before .before .before .before .before in (a .pre .0, omega (arith, c .before .loop-test .taken, c .before .before .before .before .at .ensures, a .pre .1, a .pre .0 .d-high))
+put-prefix-requires c κs = (c .before .before .before .before .before .before .pre .0, omega (arith, c .before .loop-test .taken, c .before .before .before .entry-count .ensures .1))
 
 add-e : tie.Need-add-e Inv-loop μ-loop
-add-e c = let a = c .before .before .before .before .before .before .before .before .before .before in omega (arith, c .before .before .before .before .loop-test .taken, c .before .before .before .before .before .before .before .at .ensures, a .pre .1, a .pre .0 .d-high)
+add-e c = omega (arith, c .before .before .before .before .loop-test .taken, c .before .before .before .before .before .before .entry-count .ensures .1)
 
 loop-less : tie.Need-loop-less Inv-loop μ-loop
 loop-less c = omega (arith, c .before .before .before .before .loop-test .taken)
@@ -40,7 +36,7 @@ same-length : tie.Need-same-length Inv-loop μ-loop
 same-length c = c .before .loop .inv .long
 
 returns : tie.Need-returns Inv-loop μ-loop
-returns c = let a = c .before .before .before .before .before .before .args in let l = c .before .loop in let q : l .e ≡ entries (a .h) (a .table .now) = omega (arith, l .inv .most, c .loop-test .left, c .before .before .before .at .ensures) in l .inv .here ∙ ap (prefixed (a .h) (a .table .now) (λ (_ : ℕ). 0)) q
+returns c = let a = c .before .before .before .before .before .args in let l = c .before .loop in let q : l .e ≡ entries (a .h) (a .table .now) = omega (arith, l .inv .most, c .loop-test .left, c .before .before .entry-count .ensures .0) in l .inv .here ∙ ap (prefixed (a .h) (a .table .now) (λ (_ : ℕ). 0)) q
 
 pub clear-prefixes-spec : {M : Type 1} → statement M
 clear-prefixes-spec =
@@ -48,8 +44,7 @@ clear-prefixes-spec =
     (tie.spec
     Inv-loop
     μ-loop
-    at-requires
-    add-n
+    entry-count-requires
     loop-holds
     put-prefix-requires
     add-e

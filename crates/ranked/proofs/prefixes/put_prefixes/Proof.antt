@@ -8,7 +8,6 @@ use Rattle.layout.specs.Entries.{entries}
 use Rattle.ranks.specs.Form.{prefixed}
 use Rattle.ranked.specs.Counts.{entrySize}
 use Rattle.ranked.proofs.Writing.{Written, written-start, written-more, inside-kept, size-kept, sizes-small, sum-more}
-use borrow.Author.Needs.{needs}
 use Rattle.ranked.proofs.prefixes.put_prefixes.Statement.{statement}
 use Rattle.ranked.proofs.prefixes.put_prefixes.Tie as tie
 
@@ -18,29 +17,26 @@ Inv-loop h pages counts table₀ n sum₀ e₀ table sum e = Written h table₀ 
 abbrev μ-loop : tie.MeasureT-loop
 μ-loop h pages counts table₀ n sum₀ e₀ table sum e = n - e
 
-sum-so-far : (c : tie.After-slice-known2 Inv-loop μ-loop) → c .before .before .before .before .before .before .before .loop .sum + c .before .before .before .before .entry-size .result ≡ sumTo (entrySize (c .before .before .before .before .before .before .before .before .before .before .before .before .before .before .args .h) (c .before .before .before .before .before .before .before .before .before .before .before .before .before .before .args .pages .now) (c .before .before .before .before .before .before .before .before .before .before .before .before .before .before .args .table .now)) (c .before .before .before .before .before .before .before .loop .e + 1)
+sum-so-far : (c : tie.After-slice-known2 Inv-loop μ-loop) → c .before .before .before .before .before .before .before .loop .sum + c .before .before .before .before .entry-size .result ≡ sumTo (entrySize (c .before .before .before .before .before .before .before .before .before .before .before .before .before .args .h) (c .before .before .before .before .before .before .before .before .before .before .before .before .before .args .pages .now) (c .before .before .before .before .before .before .before .before .before .before .before .before .before .args .table .now)) (c .before .before .before .before .before .before .before .loop .e + 1)
 sum-so-far c = let l = c .before .before .before .before .before .before .before .loop in sum-more _ (l .e) _ _ (l .inv .1) (c .before .before .before .before .entry-size .ensures ∙ size-kept _ _ _ _ _ _ (l .inv .0) _ (l .e))
 
-at-requires : tie.Need-at-requires Inv-loop μ-loop
-at-requires c κs = search needs
-
-add-n : tie.Need-add-n Inv-loop μ-loop
-add-n c = omega (arith, c .before .at .ensures, c .before .before .before .before .before .before .pre .1, c .before .before .before .before .before .before .pre .0 .d-high)
+entry-count-requires : tie.Need-entry-count-requires Inv-loop μ-loop
+entry-count-requires c κs = let a = c .before .before .before .before in (a .pre .0, a .pre .1)
 
 loop-holds : tie.Need-loop-holds Inv-loop μ-loop
 loop-holds c = (written-start _ _ _ _, sym (sum-zero _))
 
 entry-size-requires : tie.Need-entry-size-requires Inv-loop μ-loop
-entry-size-requires c κs = let a = c .before .before .before .before .before .before .before .before .before in let l = c .before .before .loop in (a .pre .0, omega (arith, c .before .loop-test .taken, c .before .before .before .before .at .ensures, a .pre .1, a .pre .0 .d-high), a .pre .2, a .pre .3, inside-kept _ _ _ _ _ _ (l .inv .0) (l .e) (a .pre .4 .at (l .e) (omega (arith, c .before .loop-test .taken, c .before .before .before .before .at .ensures))))
+entry-size-requires c κs = let a = c .before .before .before .before .before .before .before .before in let l = c .before .before .loop in (a .pre .0, omega (arith, c .before .loop-test .taken, c .before .before .before .entry-count .ensures .1), a .pre .2, a .pre .3, inside-kept _ _ _ _ _ _ (l .inv .0) (l .e) (a .pre .4 .at (l .e) (omega (arith, c .before .loop-test .taken, c .before .before .before .entry-count .ensures .0))))
 
 put-prefix-requires : tie.Need-put-prefix-requires Inv-loop μ-loop
-put-prefix-requires c κs = let a = c .before .before .before .before .before .before .before .before .before .before .before in (a .pre .0, omega (arith, c .before .before .before .loop-test .taken, c .before .before .before .before .before .before .at .ensures, a .pre .1, a .pre .0 .d-high))
+put-prefix-requires c κs = (c .before .before .before .before .before .before .before .before .before .before .pre .0, omega (arith, c .before .before .before .loop-test .taken, c .before .before .before .before .before .entry-count .ensures .1))
 
 add-sum : tie.Need-add-sum Inv-loop μ-loop
-add-sum c = let a = c .before .before .before .before .before .before .before .before .before .before .before .before .before .before in omega (arith, sum-so-far c, sizes-small (a .args .h) (a .args .pages .now) (a .args .table .now) (a .pre .0) (a .pre .1) (a .pre .4) (c .before .before .before .before .before .before .before .loop .e + 1) (omega (arith, c .before .before .before .before .before .before .loop-test .taken, c .before .before .before .before .before .before .before .before .before .at .ensures)))
+add-sum c = let a = c .before .before .before .before .before .before .before .before .before .before .before .before .before in omega (arith, sum-so-far c, sizes-small (a .args .h) (a .args .pages .now) (a .args .table .now) (a .pre .0) (a .pre .1) (a .pre .4) (c .before .before .before .before .before .before .before .loop .e + 1) (omega (arith, c .before .before .before .before .before .before .loop-test .taken, c .before .before .before .before .before .before .before .before .entry-count .ensures .0)))
 
 add-e : tie.Need-add-e Inv-loop μ-loop
-add-e c = let a = c .before .before .before .before .before .before .before .before .before .before .before .before .before .before in omega (arith, c .before .before .before .before .before .before .loop-test .taken, c .before .before .before .before .before .before .before .before .before .at .ensures, a .pre .1, a .pre .0 .d-high)
+add-e c = omega (arith, c .before .before .before .before .before .before .loop-test .taken, c .before .before .before .before .before .before .before .before .entry-count .ensures .1)
 
 loop-less : tie.Need-loop-less Inv-loop μ-loop
 loop-less c = omega (arith, c .before .before .before .before .before .before .loop-test .taken)
@@ -52,7 +48,7 @@ same-length : tie.Need-same-length Inv-loop μ-loop
 same-length c = c .before .loop .inv .0 .long
 
 returns : tie.Need-returns Inv-loop μ-loop
-returns c = let a = c .before .before .before .before .before .before .before .before .args in let l = c .before .loop in let f = sumTo (entrySize (a .h) (a .pages .now) (a .table .now)) in let q : l .e ≡ entries (a .h) (a .table .now) = omega (arith, l .inv .0 .most, c .loop-test .left, c .before .before .before .at .ensures) in (l .inv .1 ∙ ap f q, l .inv .0 .here ∙ ap (prefixed (a .h) (a .table .now) f) q)
+returns c = let a = c .before .before .before .before .before .before .before .args in let l = c .before .loop in let f = sumTo (entrySize (a .h) (a .pages .now) (a .table .now)) in let q : l .e ≡ entries (a .h) (a .table .now) = omega (arith, l .inv .0 .most, c .loop-test .left, c .before .before .entry-count .ensures .0) in (l .inv .1 ∙ ap f q, l .inv .0 .here ∙ ap (prefixed (a .h) (a .table .now) f) q)
 
 pub put-prefixes-spec : {M : Type 1} → statement M
 put-prefixes-spec =
@@ -60,8 +56,7 @@ put-prefixes-spec =
     (tie.spec
     Inv-loop
     μ-loop
-    at-requires
-    add-n
+    entry-count-requires
     loop-holds
     entry-size-requires
     put-prefix-requires
