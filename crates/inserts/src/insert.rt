@@ -2,7 +2,6 @@
 ghost use mathlib.Core.Path.{_≡_};
 ghost use Rattle.layout.specs.Mem.{memOf};
 ghost use Rattle.inserts.specs.Calls.{refusalOf, SetsIfNew, SetsPrepared, Sets};
-use crate::plan;
 use crate::write;
 use layout::answer::Outcome;
 use layout::answer::Truth;
@@ -43,7 +42,7 @@ pub fn set_if_new(
     let Split::At(c, o) = ids::split(id, s) else {
         return Truth::Is(false);
     };
-    let q = plan::plan(pages, rows, blocks, table, s, c, o);
+    let q = insert_plan::plan(pages, rows, blocks, table, s, c, o);
     write::act(pages, rows, table, c, o, q)
 }
 
@@ -81,6 +80,6 @@ pub fn set_prepared(
     let Split::At(c, o) = ids::split(id, s) else {
         return Truth::Refused(9);
     };
-    let q = plan::prepared(pages, rows, blocks, table, s, c, o);
+    let q = insert_plan::prepared(pages, rows, blocks, table, s, c, o);
     write::act(pages, rows, table, c, o, q)
 }

@@ -1,4 +1,3 @@
-// Inserts into a set: a plan that only reads, then short writes.
+// Inserts into a set: the plan is found by a crate that only reads, and done by short writes.
 pub mod insert;
-mod plan;
 mod write;

@@ -11,7 +11,7 @@ ghost use Rattle.layout.specs.Places.{encoded, rowPart, pagePart};
 ghost use Rattle.layout.specs.declared.place.Place.the-variants.{Sparse, Dense};
 ghost use Rattle.steps.specs.Writes.{putPart, putWord, putRowOwner, putPageOwner, putRow};
 ghost use Rattle.calls.specs.Insert.{answerOf, actBy, told};
-ghost use Rattle.inserts.specs.Ready.{Ready};
+ghost use Rattle.insert_plan.specs.Ready.{Ready};
 use calls::plan::Plan;
 use layout::answer::Truth;
 use layout::head;

@@ -4,7 +4,7 @@ use mathlib.Core.List.{List}
 use Prim.Native.Nat.{ℕ}
 use Rattle.layout.specs.Mem.{mem}
 use Rattle.calls.specs.declared.plan.Plan.{Plan}
-use Rattle.inserts.specs.Ready.{Ready, BeginReady, TurnReady}
+use Rattle.insert_plan.specs.Ready.{Ready, BeginReady, TurnReady}
 use Rattle.inserts.proofs.Acts.{act-way, act-mark, act-enter, act-begin, act-turn}
 use borrow.Author.Needs.{needs}
 use Rattle.inserts.proofs.write.act.Statement.{statement}

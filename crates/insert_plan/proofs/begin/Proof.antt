@@ -3,10 +3,10 @@ use Prim.Native.Nat.{_+_, _*_, _≤_}
 use native.Mathlib.Omega.{arith}
 use Rattle.layout.specs.Mem.{Mem, memOf}
 use Rattle.layout.proofs.Tests.{HeadIs}
-use Rattle.inserts.proofs.Plans.{head-good, owners-at, begin-bad, begin-six, begin-row, begin-seven}
+use Rattle.insert_plan.proofs.Plans.{head-good, owners-at, begin-bad, begin-six, begin-row, begin-seven}
 use borrow.Author.Needs.{needs}
-use Rattle.inserts.proofs.plan.begin.Statement.{statement}
-use Rattle.inserts.proofs.plan.begin.Tie as tie
+use Rattle.insert_plan.proofs.begin.Statement.{statement}
+use Rattle.insert_plan.proofs.begin.Tie as tie
 
 abbrev memory : tie.Start → Mem
 memory c = memOf (c .args .pages) (c .args .rows) (c .args .blocks) (c .args .table)

@@ -28,7 +28,7 @@ use Rattle.calls.specs.Insert.{freeRow, freePage, planBegin, planTurn, planRow,
 use Rattle.calls.specs.declared.plan.Plan.{Plan}
 use Rattle.calls.specs.declared.plan.Plan.the-variants.{Refuse, Known, Mark, Enter, Begin, Turn}
 use Rattle.idset.proofs.Spots.{InRows, InPages, spot-row, spot-page, spot-sparse}
-use Rattle.inserts.specs.Ready.{Reached, Ready}
+use Rattle.insert_plan.specs.Ready.{Reached, Ready}
 
 -- ---- a word that was found
 

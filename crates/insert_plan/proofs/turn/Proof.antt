@@ -3,10 +3,10 @@ use Prim.Native.Nat.{_+_, _*_, _≤_}
 use native.Mathlib.Omega.{arith}
 use Rattle.layout.specs.Mem.{Mem, memOf}
 use Rattle.layout.proofs.Tests.{HeadIs}
-use Rattle.inserts.proofs.Plans.{head-good, owners-at, turn-bad, turn-out, turn-page, turn-eight}
+use Rattle.insert_plan.proofs.Plans.{head-good, owners-at, turn-bad, turn-out, turn-page, turn-eight}
 use borrow.Author.Needs.{needs}
-use Rattle.inserts.proofs.plan.turn.Statement.{statement}
-use Rattle.inserts.proofs.plan.turn.Tie as tie
+use Rattle.insert_plan.proofs.turn.Statement.{statement}
+use Rattle.insert_plan.proofs.turn.Tie as tie
 
 abbrev memory : tie.Start → Mem
 memory c = memOf (c .args .pages) (c .args .rows) (c .args .blocks) (c .args .table)

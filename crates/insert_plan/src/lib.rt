@@ -90,7 +90,8 @@ pub fn row(
     match sparse::spot(&rows[a..e], l, o as u32) {
         Place::Found(_) => Plan::Known,
         Place::Free(k) => {
-            if l < n {
+            let left = n - l;
+            if 0 < left {
                 return Plan::Enter(a, n, l, k, w);
             }
             turn(pages, rows, blocks, table, (w - 1) / 2048, l)

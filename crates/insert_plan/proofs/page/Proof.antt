@@ -1,8 +1,8 @@
 -- A bit that is set is a member. Assumes nothing.
-use Rattle.inserts.proofs.Plans.{page-known, page-mark}
+use Rattle.insert_plan.proofs.Plans.{page-known, page-mark}
 use borrow.Author.Needs.{needs}
-use Rattle.inserts.proofs.plan.page.Statement.{statement}
-use Rattle.inserts.proofs.plan.page.Tie as tie
+use Rattle.insert_plan.proofs.page.Statement.{statement}
+use Rattle.insert_plan.proofs.page.Tie as tie
 
 add-e : tie.Need-add-e
 add-e c = search needs

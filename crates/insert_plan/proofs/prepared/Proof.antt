@@ -6,11 +6,11 @@ use Rattle.layout.specs.Short.{wordIn}
 use Rattle.layout.specs.declared.find.Word.the-variants as word
 use Rattle.layout.specs.declared.find.Spot.{Spot}
 use Rattle.calls.specs.Reading.{spotBy}
-use Rattle.inserts.proofs.Plans.{prepared-bad, prepared-spot, spot-by}
-use Rattle.inserts.proofs.Readies.{page-ready}
+use Rattle.insert_plan.proofs.Plans.{prepared-bad, prepared-spot, spot-by}
+use Rattle.insert_plan.proofs.Readies.{page-ready}
 use borrow.Author.Needs.{needs}
-use Rattle.inserts.proofs.plan.prepared.Statement.{statement}
-use Rattle.inserts.proofs.plan.prepared.Tie as tie
+use Rattle.insert_plan.proofs.prepared.Statement.{statement}
+use Rattle.insert_plan.proofs.prepared.Tie as tie
 
 abbrev memory : tie.Start → Mem
 memory c = memOf (c .args .pages) (c .args .rows) (c .args .blocks) (c .args .table)

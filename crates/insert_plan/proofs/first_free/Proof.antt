@@ -5,11 +5,12 @@ use Prim.Native.Nat.{ℕ, _+_, _-_, _≤_}
 use native.Mathlib.Omega.{arith}
 use lib.ListN.{getD}
 use Rattle.calls.specs.Insert.{firstFree}
-use Rattle.inserts.proofs.Frees.{free-start, free-here, free-more, free-end}
+use Rattle.insert_plan.proofs.Frees.{free-start, free-here, free-more, free-end}
 use borrow.Author.Needs.{needs}
 use borrow.Author.Needs.{needs}
-use Rattle.inserts.proofs.plan.first_free.Statement.{statement}
-use Rattle.inserts.proofs.plan.first_free.Tie as tie
+use borrow.Author.Needs.{needs}
+use Rattle.insert_plan.proofs.first_free.Statement.{statement}
+use Rattle.insert_plan.proofs.first_free.Tie as tie
 
 abbrev Inv-loop : tie.InvT-loop
 Inv-loop table at k i₀ i = (i ≤ k) × (firstFree (λ (j : ℕ). getD table (at + j) 0) i (k - i) ≡ firstFree (λ (j : ℕ). getD table (at + j) 0) 0 k)

@@ -1,0 +1,3 @@
+pub mod Frees
+pub mod Plans
+pub mod Readies
