@@ -1,0 +1,22 @@
+-- The code of the wrapped answer. Assumes nothing.
+use Rattle.layout.specs.Mem.{memOf}
+use Rattle.ranked.specs.Answers.{RankIfOf}
+use Rattle.exports.specs.Codes.{perhapsCode}
+use Rattle.exports.proofs.Codes.{coded-at}
+use borrow.Author.Needs.{needs}
+use Rattle.exports.proofs.read.bp_rank_if_set.Statement.{statement}
+use Rattle.exports.proofs.read.bp_rank_if_set.Tie as tie
+
+rank-if-set-requires : tie.Need-rank-if-set-requires
+rank-if-set-requires c κs = search needs
+
+of-perhaps-requires : tie.Need-of-perhaps-requires
+of-perhaps-requires c κs = search needs
+
+returns : tie.Need-returns
+returns c =
+    let a = c .before .before .before .before .before .before in
+    coded-at perhapsCode (RankIfOf (memOf (a .args .pages) (a .args .rows) (a .args .blocks) (a .args .table))) (a .args .id) (a .fits .id) _ _ (c .of-perhaps .ensures) (c .before .rank-if-set .ensures)
+
+pub bp-rank-if-set-spec : {M : Type 1} → statement M
+bp-rank-if-set-spec = tie.close (tie.spec rank-if-set-requires of-perhaps-requires returns)

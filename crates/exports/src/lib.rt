@@ -1,0 +1,4 @@
+// The library for C and Rust: an entry for each call, on numbers and slices. include/brothpillow.h declares them.
+pub mod answer;
+pub mod change;
+pub mod read;

@@ -1,0 +1,6 @@
+pub mod Fills
+pub mod Turns
+pub mod Spares
+pub mod Walks
+pub mod Steady
+pub mod Plans

@@ -1,0 +1,213 @@
+-- What the plan says, way by way, and that carrying it out is `pre_allocate`. Assumes nothing.
+use mathlib.Core.Path.{_≡_, refl, sym, _∙_, ap, ap₂, subst}
+use mathlib.Core.List.{List}
+use mathlib.Core.Bool.{Bool, true, false, cond, _&&_}
+use Prim.Native.Nat.{ℕ, _+_, _-_, _*_, _/_, _^_, _≤_, _<_}
+use native.Mathlib.Omega.{arith}
+use lib.Dec.{ltb, eqb}
+use lib.IntN.{ℤ, pos, negsuc}
+use lib.Pow.{pow-mono}
+use mir.Syntax.{w64}
+use mir.Val.{SFits, boolByte}
+use borrow.Author.Tests.{eq-eqb, ne-eqb, lt-ltb, le-ltb, ltb-false}
+use Rattle.numbers.specs.Ids.{chunkOf}
+use Rattle.numbers.proofs.Signs.{pos-below}
+use Rattle.numbers.proofs.Splits as splits
+use Rattle.numbers.specs.declared.Natural.{Natural}
+use Rattle.numbers.specs.declared.Natural.the-variants as natural
+use Rattle.sums.specs.Ids.{count}
+use Rattle.sums.proofs.Counts.{count-next}
+use Rattle.layout.specs.Mem.{Mem, mem}
+use Rattle.layout.specs.Sizes.{InRange, top, head, modeAt, overCount, headerAt}
+use Rattle.layout.specs.Places.{isDense}
+use Rattle.layout.specs.Entries.{entries, chunkAt, placeAt}
+use Rattle.layout.specs.Short.{overPlace}
+use Rattle.layout.specs.Tests.{Walked, walked}
+use Rattle.layout.specs.SetUp.{Did, did}
+use Rattle.layout.specs.Follows.{Follows}
+use Rattle.layout.specs.declared.head.Header.{Header}
+use Rattle.layout.specs.declared.place.Place.{Place}
+use Rattle.layout.specs.declared.answer.Outcome.{Outcome}
+use Rattle.layout.specs.declared.answer.Outcome.the-variants.{Done, Refused}
+use Rattle.layout.proofs.Tests.{walked-of}
+use Rattle.calls.specs.Prepare.{work, densedTo, overNeeded, pagesNeeded, prepareId, prepareBy}
+use Rattle.calls.specs.Promise.{Prepares}
+use Rattle.calls.proofs.Preparing.{prepare-says}
+use Rattle.prepare.specs.Plans.{planTo, planId, planBy}
+use Rattle.prepare.specs.Ready.{Sound}
+use Rattle.prepare.specs.declared.plan.Plan.{Plan}
+use Rattle.prepare.specs.declared.plan.Plan.the-variants.{Refuse, Nothing, Make}
+
+-- ---- what is needed
+
+module _ (h : Header) (t : List ℕ) (c : ℕ) where
+  abbrev pub densePast : ℕ → Bool
+  densePast = λ (e : ℕ). ltb c (chunkAt h t e) && isDense (placeAt h t e)
+
+  pub past-is : (e i : ℕ) (q : Place) (b : Bool) → i ≡ chunkAt h t e → q ≡ placeAt h t e → b ≡ isDense q → (ltb c i && b) ≡ densePast e
+  past-is e i q b ei eq eb = ap₂ _&&_ (ap (ltb c) ei) (eb ∙ ap isDense eq)
+
+  pub past-more : (e k : ℕ) (b : Bool) → k ≡ count densePast e → b ≡ densePast e → k + boolByte b ≡ count densePast (e + 1)
+  past-more e k b ek eb = ap₂ _+_ ek (ap boolByte eb) ∙ sym (count-next densePast e)
+
+  pub pages-are : (k e : ℕ) → k ≡ count densePast e → e ≡ entries h t → k + (c + 1) ≡ pagesNeeded h t c
+  unfolding pagesNeeded
+  pages-are k e ek ee = ap (λ (i : ℕ). i + (c + 1)) (ek ∙ ap (count densePast) ee)
+
+  pub over-is : (n k i : ℕ) → n ≡ overCount t → k ≡ overPlace t (16 + 2 * h .d) n (c + 1) → i ≡ c + 1 - h .d → n - k + i ≡ overNeeded h t c
+  unfolding overNeeded
+  over-is n k i en ek ei = ap₂ _+_ (ap (λ (j : ℕ). n - j) ek ∙ ap (λ (j : ℕ). j - overPlace t (16 + 2 * h .d) j (c + 1)) en) ei
+
+  -- ---- 6 before 8
+
+  by : Bool → Bool → Plan
+  by a b = cond a (Refuse 6) (cond b (Refuse 8) (Make c))
+
+  module _ (v : ℕ) (ev : v ≡ overNeeded h t c) where
+    pub judge-six : h .v < v → Refuse 6 ≡ planTo h t c
+    unfolding planTo by
+    judge-six l = ap (λ (a : Bool). by a (ltb (h .p) (pagesNeeded h t c))) (sym (ap (ltb (h .v)) (sym ev) ∙ lt-ltb (h .v) v l))
+
+    module _ (l : v ≤ h .v) (p : ℕ) (ep : p ≡ pagesNeeded h t c) where
+      not-six : ltb (h .v) (overNeeded h t c) ≡ false
+      not-six = ap (ltb (h .v)) (sym ev) ∙ le-ltb (h .v) v l
+
+      pub judge-eight : h .p < p → Refuse 8 ≡ planTo h t c
+      unfolding planTo by
+      judge-eight m = ap₂ by (sym not-six) (sym (ap (ltb (h .p)) (sym ep) ∙ lt-ltb (h .p) p m))
+
+      pub judge-make : p ≤ h .p → Make c ≡ planTo h t c
+      unfolding planTo by
+      judge-make m = ap₂ by (sym not-six) (sym (ap (ltb (h .p)) (sym ep) ∙ le-ltb (h .p) p m))
+
+-- ---- 3, then 4
+
+abbrev by-chunk : Header → Mem → Natural → Plan
+by-chunk h x (natural.At c) = planTo h (x .table) c
+by-chunk h x natural.Negative = Nothing
+
+module _ (x : Mem) (z : ℤ) (a : Bool) (ea : a ≡ walked x) where
+  gate : Bool → Bool → Plan
+  gate i j = cond i (cond j (Refuse 4) (planId x z)) (Refuse 3)
+
+  pub plan-three : a ≡ false → Refuse 3 ≡ planBy x z
+  unfolding planBy gate
+  plan-three e = ap (λ (i : Bool). gate i (eqb (modeAt (x .table)) 1)) (sym e ∙ ea)
+
+  module _ (ok : a ≡ true) (m : ℕ) (em : m ≡ modeAt (x .table)) where
+    pub plan-four : m ≡ 1 → Refuse 4 ≡ planBy x z
+    unfolding planBy gate
+    plan-four e = ap₂ gate (sym ok ∙ ea) (sym (ap (λ (i : ℕ). eqb i 1) (sym em) ∙ eq-eqb m 1 e))
+
+    pub is-walked : Walked x (head x)
+    is-walked = walked-of x .sound (sym ea ∙ ok)
+
+    module _ (h : Header) (eh : h ≡ head x) where
+      pub plan-range : InRange h × (overCount (x .table) ≤ 65536)
+      plan-range =
+          let W = is-walked in
+          let f = W .over-fits in
+          let v = W .sizes .v-high in
+          (subst InRange (sym eh) (W .sizes), omega arith)
+
+      module _ (open-set : m ≡ 1 → ⊥) where
+        plan-open : planId x z ≡ planBy x z
+        unfolding planBy gate
+        plan-open = ap₂ gate (sym ok ∙ ea) (sym (ap (λ (i : ℕ). eqb i 1) (sym em) ∙ ne-eqb m 1 open-set))
+
+        chunk-plan : (w : ℤ) → by-chunk h x (chunkOf (h .s) w) ≡ planId x w
+        chunk-plan (pos n) = ap (λ (k : Header). planTo k (x .table) (n / top k)) eh
+        chunk-plan (negsuc n) = refl
+
+        plan-natural : (q : Natural) → q ≡ chunkOf (h .s) z → by-chunk h x q ≡ planBy x z
+        plan-natural q e = ap (by-chunk h x) e ∙ chunk-plan z ∙ plan-open
+
+        pub plan-nothing : natural.Negative ≡ chunkOf (h .s) z → Nothing ≡ planBy x z
+        plan-nothing e = plan-natural natural.Negative e
+
+        pub plan-chunk : (c : ℕ) → natural.At c ≡ chunkOf (h .s) z → planTo h (x .table) c ≡ planBy x z
+        plan-chunk c e = plan-natural (natural.At c) e
+
+-- a chunk id is far below 2^62
+pub chunk-small : (s : ℕ) (z : ℤ) (c : ℕ) → 9 ≤ s → s ≤ 25 → SFits w64 z → natural.At c ≡ chunkOf s z → c < 2 ^ 62
+chunk-small s (pos n) c low high f e =
+    let q : c ≡ n / 2 ^ s = cc in
+    let l = splits.chunk-below s n (omega arith) (pos-below n f) in
+    let g : 2 ^ (63 - s) ≤ 2 ^ 62 = pow-mono {j = 62} (omega arith) in
+    omega arith
+chunk-small s (negsuc n) c low high f e = absurd (let g : _≡_ {A = ℕ} 0 1 = cc in omega arith)
+
+-- ---- carried out
+
+abbrev acted : Mem → Plan → Did
+acted x (Refuse n) = did (Refused n) x
+acted x Nothing = did Done x
+acted x (Make c) = did Done (densedTo (head x) (work x 0) (c + 1) .mem)
+
+acted-by : (x : Mem) (z : ℤ) → acted x (planBy x z) ≡ prepareBy x z
+unfolding planBy planTo prepareBy
+acted-by x z = go (walked x) (eqb (modeAt (x .table)) 1) z
+  where
+    pick : (a b : Bool) (c : ℕ) → acted x (cond a (Refuse 6) (cond b (Refuse 8) (Make c))) ≡ cond a (did (Refused 6) x) (cond b (did (Refused 8) x) (did Done (densedTo (head x) (work x 0) (c + 1) .mem)))
+    pick true b c = refl
+    pick false true c = refl
+    pick false false c = refl
+
+    go : (a b : Bool) (w : ℤ) → acted x (cond a (cond b (Refuse 4) (planId x w)) (Refuse 3)) ≡ cond a (cond b (did (Refused 4) x) (prepareId x w)) (did (Refused 3) x)
+    go false b w = refl
+    go true true w = refl
+    go true false (pos n) = pick (ltb (head x .v) (overNeeded (head x) (x .table) (n / top (head x)))) (ltb (head x .p) (pagesNeeded (head x) (x .table) (n / top (head x)))) (n / top (head x))
+    go true false (negsuc n) = refl
+
+-- a plan that was made, carried out
+pub plan-acted : (x : Mem) (z : ℤ) (q r : Plan) → q ≡ planBy x z → q ≡ r → acted x r ≡ prepareBy x z
+plan-acted x z q r e f = ap (acted x) (sym f ∙ e) ∙ acted-by x z
+
+-- the same with what a customer reads
+pub says : (x : Mem) (z : ℤ) → SFits w64 z → (r : Outcome) (y : Mem) → did r y ≡ prepareBy x z → (did r y ≡ prepareBy x z) × (Follows x → Prepares x z r y)
+says x z f r y e = (e, λ w. subst (λ (d : Did). Prepares x z (d .answer) (d .after)) (sym e) (prepare-says w z f))
+
+-- ---- a plan to make chunks dense stands on the walk and on room in the overflow table
+
+not-make : (n c : ℕ) → Refuse n ≡ Make c → ⊥
+not-make n c e = let z : _≡_ {A = ℕ} 0 1 = cc in omega arith
+
+not-nothing : (c : ℕ) → Nothing ≡ Make c → ⊥
+not-nothing c e = let z : _≡_ {A = ℕ} 0 1 = cc in omega arith
+
+gate-made : (a b : Bool) (p : Plan) (c : ℕ) → cond a (cond b (Refuse 4) p) (Refuse 3) ≡ Make c → (a ≡ true) × (p ≡ Make c)
+gate-made true true p c e = absurd (not-make 4 c e)
+gate-made true false p c e = (refl, e)
+gate-made false b p c e = absurd (not-make 3 c e)
+
+pick-made : (a b : Bool) (k c : ℕ) → cond a (Refuse 6) (cond b (Refuse 8) (Make k)) ≡ Make c → (a ≡ false) × (k ≡ c)
+pick-made true b k c e = absurd (not-make 6 c e)
+pick-made false true k c e = absurd (not-make 8 c e)
+pick-made false false k c e = (refl, cc)
+
+id-made : (x : Mem) (z : ℤ) (c : ℕ) → planId x z ≡ Make c → overNeeded (head x) (x .table) c ≤ head x .v
+unfolding planTo
+id-made x (pos n) c e =
+    let k = n / top (head x) in
+    let g = pick-made (ltb (head x .v) (overNeeded (head x) (x .table) k)) (ltb (head x .p) (pagesNeeded (head x) (x .table) k)) k c e in
+    subst (λ (i : ℕ). overNeeded (head x) (x .table) i ≤ head x .v) (g .1) (ltb-false (head x .v) (overNeeded (head x) (x .table) k) (g .0))
+id-made x (negsuc n) c e = absurd (not-nothing c e)
+
+-- whatever the block counts are
+sound : (x : Mem) → Walked x (head x) → Sound (x .pages) (x .rows) (x .table)
+sound x W b l =
+    let r = W .room in
+    record {
+      sizes = W .sizes;
+      room = record { in-pages = r .in-pages; in-rows = r .in-rows; in-blocks = l; in-table = r .in-table };
+      mode = W .mode;
+      over-fits = W .over-fits;
+      keys = W .keys;
+      places = W .places;
+    }
+
+pub plan-made : (x : Mem) (z : ℤ) (q : Plan) (c : ℕ) → q ≡ planBy x z → q ≡ Make c → Sound (x .pages) (x .rows) (x .table) × (overNeeded (headerAt (x .table)) (x .table) c ≤ headerAt (x .table) .v)
+unfolding planBy
+plan-made x z q c e f =
+    let g = gate-made (walked x) (eqb (modeAt (x .table)) 1) (planId x z) c (sym e ∙ f) in
+    (sound x (walked-of x .sound (g .0)), id-made x z c (g .1))

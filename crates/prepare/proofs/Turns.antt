@@ -1,0 +1,87 @@
+-- One chunk's turn: the search for a free page, and what each place makes of it. Assumes nothing.
+use mathlib.Core.Path.{_≡_, sym, _∙_, ap, ap₂, subst}
+use mathlib.Core.List.{List}
+use mathlib.Core.Bool.{Bool, cond}
+use Prim.Native.Nat.{ℕ, suc, _+_, _-_, _*_, _≤_, _<_}
+use native.Mathlib.Numerals.{add-one}
+use native.Mathlib.Omega.{arith}
+use lib.ListN.{replicate}
+use lib.Dec.{eqb}
+use borrow.Author.Tests.{eq-eqb, ne-eqb, lt-ltb, le-ltb}
+use Rattle.dense.specs.Bits.{withRow}
+use Rattle.layout.specs.Mem.{Mem, mem}
+use Rattle.layout.specs.Sizes.{top, wide}
+use Rattle.layout.specs.Places.{encoded, decoded, rowPart, pagePart}
+use Rattle.layout.specs.declared.head.Header.{Header}
+use Rattle.layout.specs.declared.place.Place.{Place}
+use Rattle.layout.specs.declared.place.Place.the-variants.{Absent, Sparse, Dense}
+use Rattle.layout.specs.declared.find.Word.{Word}
+use Rattle.layout.specs.declared.find.Word.the-variants as word
+use Rattle.steps.specs.Writes.{putPart, putWord, putRowOwner, putPageOwner, putRow}
+use Rattle.steps.specs.Steps.{paged}
+use Rattle.calls.specs.Insert.{firstFree}
+use Rattle.calls.specs.Prepare.{Work, work, intoPage, intoFree, densed, densedWord}
+use Rattle.prepare.specs.Ready.{RowInside, WordInside}
+use Rattle.prepare.proofs.Fills.{put-same}
+
+-- ---- the search, turn by turn
+
+module _ (f : ℕ → ℕ) (k i : ℕ) where
+  module _ (l : i < k) where
+    left : k - i ≡ suc (k - (i + 1))
+    left = omega arith
+
+    turn : (b : Bool) → eqb (f i) 0 ≡ b → cond b i (firstFree f (suc i) (k - (i + 1))) ≡ firstFree f i (k - i)
+    unfolding firstFree
+    turn b e = ap (λ (c : Bool). cond c i (firstFree f (suc i) (k - (i + 1)))) (sym e) ∙ ap (firstFree f i) (sym left)
+
+    pub free-here : f i ≡ 0 → i ≡ firstFree f i (k - i)
+    free-here e = turn _ (eq-eqb (f i) 0 e)
+
+    pub free-more : (f i ≡ 0 → ⊥) → firstFree f (i + 1) (k - (i + 1)) ≡ firstFree f i (k - i)
+    free-more n = ap (λ (j : ℕ). firstFree f j (k - (i + 1))) (add-one i) ∙ turn _ (ne-eqb (f i) 0 n)
+
+  pub free-end : k ≤ i → i ≡ firstFree f i (k - i)
+  unfolding firstFree
+  free-end l = let e : 0 ≡ k - i = omega arith in ap (firstFree f i) e
+
+-- ---- a page is found, or none
+
+module _ (h : Header) (x : Mem) (next c : ℕ) (q : Place) (p f : ℕ) (e : p ≡ f) where
+  into : Bool → ℕ → Work
+  into b i = cond b (work (intoPage h x c i q) (i + 1)) (work x next)
+
+  pub free-none : h .p ≤ p → work x next ≡ intoFree h (work x next) c q f
+  unfolding into
+  free-none l = ap₂ into (sym (le-ltb f (h .p) (omega (arith, e)))) e
+
+  pub free-some : p < h .p → (y : Mem) → y ≡ intoPage h x c p q → work y (p + 1) ≡ intoFree h (work x next) c q f
+  unfolding into
+  free-some l y g = ap (λ (m : Mem). work m (p + 1)) g ∙ ap₂ into (sym (lt-ltb f (h .p) (omega (arith, e)))) e
+
+-- ---- what is written
+
+module _ (h : Header) (c p : ℕ) (ps rs bs t : List ℕ) where
+  pub absent-page : (t′ : List ℕ) → t′ ≡ putPageOwner h (putWord h t c (encoded (Dense p))) p (c + 1) → mem ps rs bs t′ ≡ intoPage h (mem ps rs bs t) c p Absent
+  unfolding paged
+  absent-page t′ e = ap₂ (λ (u v : List ℕ). mem u rs bs v) (sym (put-same ps (p * wide h) (wide h))) e
+
+  pub sparse-page : (r l : ℕ) (ps′ rs′ t′ : List ℕ) → ps′ ≡ putPart ps (p * wide h) (wide h) (withRow (pagePart h ps p) 0 (rowPart h rs r) (top h) l)
+      → rs′ ≡ putRow h rs r (replicate (h .m) 0) → t′ ≡ putPageOwner h (putRowOwner h (putWord h t c (encoded (Dense p))) r 0) p (c + 1)
+      → mem ps′ rs′ bs t′ ≡ intoPage h (mem ps rs bs t) c p (Sparse r l)
+  unfolding paged
+  sparse-page r l ps′ rs′ t′ e f g =
+      ap (λ (u : List ℕ). mem u rs′ bs t′) e
+      ∙ ap₂ (λ (u v : List ℕ). mem (putPart ps (p * wide h) (wide h) (withRow (pagePart h ps p) 0 (rowPart h rs r) (top h) l)) u bs v) f g
+
+-- ---- by the word that is found
+
+module _ (h : Header) (v : Work) (c : ℕ) (r : Word) where
+  pub word-bad : r ≡ word.Bad → v ≡ densedWord h v c r
+  word-bad e = ap (densedWord h v c) (sym e)
+
+  pub word-place : (w : ℕ) (p q : Place) → r ≡ word.Is w → p ≡ decoded w → p ≡ q → densed h v c q ≡ densedWord h v c r
+  word-place w p q e f g = ap (densed h v c) (sym g ∙ f) ∙ ap (densedWord h v c) (sym e)
+
+pub found-inside : (h : Header) (r : Word) (w : ℕ) (p q : Place) → r ≡ word.Is w → p ≡ decoded w → p ≡ q → WordInside h r → RowInside h q
+found-inside h r w p q e f g i = subst (RowInside h) (sym f ∙ g) (subst (WordInside h) e i)

@@ -1,0 +1,32 @@
+// Preparation: every chunk up to a maximum becomes dense. A plan that only reads, then a loop over chunk ids that writes.
+pub mod plan;
+pub mod write;
+
+ghost use mathlib.Core.Path.{_≡_};
+ghost use Rattle.layout.specs.Mem.{memOf};
+ghost use Rattle.layout.specs.SetUp.{did};
+ghost use Rattle.layout.specs.Follows.{Follows};
+ghost use Rattle.calls.specs.Prepare.{prepareBy};
+ghost use Rattle.calls.specs.Promise.{Prepares};
+use crate::plan::Plan;
+use layout::answer::Outcome;
+
+// Chunks 0 to the maximum's become dense, with the members that they have; or 3, 4, 6, 8 and nothing is changed.
+pub fn pre_allocate(
+    pages: &mut [u64],
+    rows: &mut [u32],
+    blocks: &mut [u32],
+    table: &mut [u64],
+    max_id: i64,
+) -> Outcome
+    ensures { λ r. ⌜ (did r (memOf (pages .exit) (rows .exit) (blocks .exit) (table .exit)) ≡ prepareBy (memOf (pages .entry) (rows .entry) (blocks .entry) (table .entry)) «max_id») × (Follows (memOf (pages .entry) (rows .entry) (blocks .entry) (table .entry)) → Prepares (memOf (pages .entry) (rows .entry) (blocks .entry) (table .entry)) «max_id» r (memOf (pages .exit) (rows .exit) (blocks .exit) (table .exit))) ⌝ }
+{
+    match plan::plan_for(pages, rows, blocks, table, max_id) {
+        Plan::Refuse(n) => Outcome::Refused(n),
+        Plan::Nothing => Outcome::Done,
+        Plan::Make(c) => {
+            write::make_all(pages, rows, table, c);
+            Outcome::Done
+        }
+    }
+}

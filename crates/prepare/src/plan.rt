@@ -1,0 +1,102 @@
+// What preparation is to do, judged by arithmetic on a table that passed the walk.
+ghost use mathlib.Core.Path.{_≡_};
+ghost use mathlib.Core.Bool.{_&&_};
+ghost use Prim.Native.Nat.{_^_, _≤_, _<_};
+ghost use lib.Dec.{ltb};
+ghost use Rattle.layout.specs.Mem.{memOf};
+ghost use Rattle.layout.specs.Sizes.{InRange, overCount};
+ghost use Rattle.layout.specs.Places.{isDense};
+ghost use Rattle.layout.specs.Entries.{chunkAt, placeAt};
+ghost use Rattle.calls.specs.Prepare.{overNeeded, pagesNeeded};
+ghost use Rattle.prepare.specs.Plans.{planTo, planBy};
+use layout::entry;
+use layout::find;
+use layout::head;
+use layout::head::Header;
+use layout::place::Place;
+use layout::walk;
+use numbers::Natural;
+use numbers::id as ids;
+use numbers::order;
+use numbers::place as element;
+
+// A refusal, nothing for a negative maximum, or chunks 0 to c to make dense.
+pub enum Plan {
+    Refuse(u64),
+    Nothing,
+    Make(u64),
+}
+
+pub fn is_dense(q: Place) -> bool
+    ensures { λ b. ⌜ b ≡ isDense q ⌝ }
+{
+    match q {
+        Place::Absent => false,
+        Place::Sparse(_, _) => false,
+        Place::Dense(_) => true,
+    }
+}
+
+// A chunk past c that has a page already.
+pub fn dense_past(table: &[u64], h: Header, c: u64, e: u64) -> bool
+    requires { ⌜ InRange h × (e ≤ 327680) ⌝ }
+    ensures { λ b. ⌜ b ≡ (ltb c (chunkAt h (now (table .entry)) e) && isDense (placeAt h (now (table .entry)) e)) ⌝ }
+{
+    (c < entry::chunk_at(table, h, e)) & is_dense(entry::place_at(table, h, e))
+}
+
+// Pages in use once chunks 0 to c are dense.
+pub fn pages_needed(table: &[u64], h: Header, c: u64) -> u64
+    requires { ⌜ InRange h × (overCount (now table) ≤ 65536) × (c < 2 ^ 62) ⌝ }
+    ensures { λ n. ⌜ n ≡ pagesNeeded h (now (table .entry)) c ⌝ }
+{
+    let n = h.d + element::at(table, 7);
+    let mut k: u64 = 0;
+    let mut e: u64 = 0;
+    while e < n {
+        k += dense_past(table, h, c, e) as u64;
+        e += 1;
+    }
+    k + (c + 1)
+}
+
+// Overflow entries in use once chunks 0 to c are dense.
+pub fn over_needed(table: &[u64], h: Header, c: u64) -> u64
+    requires { ⌜ InRange h × (overCount (now table) ≤ 65536) × (c < 2 ^ 62) ⌝ }
+    ensures { λ n. ⌜ n ≡ overNeeded h (now (table .entry)) c ⌝ }
+{
+    let n = element::at(table, 7);
+    let k = find::over_place(table, 16 + 2 * h.d, n, c + 1);
+    n - k + order::minus(c + 1, h.d)
+}
+
+// 6 before 8, and no loop before 6: however large the maximum is, it is answered at once.
+pub fn judge(table: &[u64], h: Header, c: u64) -> Plan
+    requires { ⌜ InRange h × (overCount (now table) ≤ 65536) × (c < 2 ^ 62) ⌝ }
+    ensures { λ q. ⌜ q ≡ planTo h (now (table .entry)) c ⌝ }
+{
+    if h.v < over_needed(table, h, c) {
+        return Plan::Refuse(6);
+    }
+    if h.p < pages_needed(table, h, c) {
+        return Plan::Refuse(8);
+    }
+    Plan::Make(c)
+}
+
+// 3 for a table that fails the walk, 4 for a ranked set, then the maximum.
+pub fn plan_for(pages: &[u64], rows: &[u32], blocks: &[u32], table: &[u64], max_id: i64) -> Plan
+    ensures { λ q. ⌜ q ≡ planBy (memOf (pages .entry) (rows .entry) (blocks .entry) (table .entry)) «max_id» ⌝ }
+{
+    if !walk::walk(pages, rows, blocks, table) {
+        return Plan::Refuse(3);
+    }
+    if element::at(table, 6) == 1 {
+        return Plan::Refuse(4);
+    }
+    let h = head::read(table);
+    let Natural::At(c) = ids::chunk_of(max_id, h.s) else {
+        return Plan::Nothing;
+    };
+    judge(table, h, c)
+}
