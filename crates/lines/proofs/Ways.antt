@@ -1,0 +1,100 @@
+-- A law for each way through the reader's functions. Assumes nothing.
+use mathlib.Core.Path.{_≡_, refl, sym, _∙_, ap, subst}
+use mathlib.Core.Bool.{Bool, true, false}
+use Prim.Native.Nat.{ℕ, zero, suc, _+_, _-_, _*_, _/_, _^_, _≤_, _<_}
+use native.Mathlib.Omega.{arith}
+use lib.IntN.{ℤ, pos, negsuc, negℤ, _-ℤ_, +ℤ-idl}
+use mir.Syntax.{w64}
+use mir.Val.{SFits, ofZ, toZ}
+use mir.Facts.{toZ-ofZ, toZ-pos}
+use borrow.Author.Tests.{le-leb, lt-leb, lt-ltb, le-ltb, eq-eqb, ne-eqb}
+use Rattle.lines.specs.Reader.{digitOn, next}
+use Rattle.lines.specs.declared.Line.{Line}
+use Rattle.lines.specs.declared.Line.the-variants.{Empty, Digits, Bad}
+use Rattle.lines.specs.declared.Said.the-variants as said
+use Rattle.lines.proofs.Lines.{idIn}
+
+-- ---- one more digit
+
+module _ (m : Bool) (n v b : ℕ) where
+  pub digit-low : b < 48 → Bad ≡ digitOn m n v b
+  unfolding digitOn
+  digit-low h = sym (rw (lt-leb 48 b h))
+
+  pub digit-high : 57 < b → Bad ≡ digitOn m n v b
+  unfolding digitOn
+  digit-high h = let l : 48 ≤ b = omega arith in sym (rw (le-leb 48 b l, lt-leb b 57 h))
+
+  module _ (lo : 48 ≤ b) (hi : b ≤ 57) where
+    pub digit-many : 20 ≤ n → Bad ≡ digitOn m n v b
+    unfolding digitOn
+    digit-many h = sym (rw (le-leb 48 b lo, le-leb b 57 hi, le-ltb n 20 h))
+
+    pub digit-over : n < 20 → (18446744073709551615 - (b - 48)) / 10 < v → Bad ≡ digitOn m n v b
+    unfolding digitOn
+    digit-over h k =
+        let w : 2 ^ 64 ≤ v * 10 + (b - 48) = omega arith in
+        sym (rw (le-leb 48 b lo, le-leb b 57 hi, lt-ltb n 20 h, le-ltb (v * 10 + (b - 48)) (2 ^ 64) w))
+
+    pub digit-fits : n < 20 → v ≤ (18446744073709551615 - (b - 48)) / 10 → Digits m (n + 1) (v * 10 + (b - 48)) ≡ digitOn m n v b
+    unfolding digitOn
+    digit-fits h k =
+        let w : v * 10 + (b - 48) < 2 ^ 64 = omega arith in
+        sym (rw (le-leb 48 b lo, le-leb b 57 hi, lt-ltb n 20 h, lt-ltb (v * 10 + (b - 48)) (2 ^ 64) w))
+
+-- ---- one more byte
+
+pub next-minus : (b : ℕ) → b ≡ 45 → Digits true 0 0 ≡ next Empty b
+unfolding next
+next-minus b h = sym (rw (eq-eqb b 45 h))
+
+pub next-other : (b : ℕ) (r : Line) → (b ≡ 45 → ⊥) → r ≡ digitOn false 0 0 b → r ≡ next Empty b
+unfolding next
+next-other b r h e = e ∙ sym (rw (ne-eqb b 45 h))
+
+-- ---- negative numbers
+
+pub neg-half : (v : ℕ) → v ≡ 9223372036854775808 → negsuc 9223372036854775807 ≡ negℤ (pos v)
+neg-half v e = ap (λ (n : ℕ). negℤ (pos n)) (sym e)
+
+neg-fits : (v : ℕ) → v ≤ 2 ^ 63 → SFits w64 (negℤ (pos v))
+neg-fits zero h = record { sfits = omega arith }
+neg-fits (suc n) h = record { sfits = omega arith }
+
+sub-is : (v : ℕ) → v < 2 ^ 63 → (pos 0 -ℤ toZ w64 v) ≡ negℤ (pos v)
+sub-is v h = rw (toZ-pos w64 h) (+ℤ-idl (negℤ (pos v)))
+
+module _ (v : ℕ) (h : v ≤ 2 ^ 63) (n : v ≡ 9223372036854775808 → ⊥) where
+  below : v < 2 ^ 63
+  below = omega arith
+
+  pub sub-fits : SFits w64 (pos 0 -ℤ toZ w64 v)
+  sub-fits = rw (sub-is v below) (neg-fits v h)
+
+  pub sub-says : toZ w64 (ofZ w64 (pos 0 -ℤ toZ w64 v)) ≡ negℤ (pos v)
+  sub-says = toZ-ofZ sub-fits ∙ sub-is v below
+
+-- ---- an id
+
+module _ (n v : ℕ) where
+  pub id-few : (m : Bool) → n < 1 → said.Bad ≡ idIn (Digits m n v)
+  id-few m h = sym (rw (lt-leb 1 n h))
+
+  pub id-many : (m : Bool) → 19 < n → said.Bad ≡ idIn (Digits m n v)
+  id-many m h = let l : 1 ≤ n = omega arith in sym (rw (le-leb 1 n l, lt-leb n 19 h))
+
+  module _ (lo : 1 ≤ n) (hi : n ≤ 19) where
+    pub id-deep : 9223372036854775808 < v → said.Bad ≡ idIn (Digits true n v)
+    id-deep h = sym (rw (le-leb 1 n lo, le-leb n 19 hi, lt-leb v (2 ^ 63) h))
+
+    pub id-negative : (z : ℤ) → v ≤ 9223372036854775808 → z ≡ negℤ (pos v) → said.Id (toZ w64 (ofZ w64 z)) ≡ idIn (Digits true n v)
+    id-negative z h e =
+        ap (λ (x : ℤ). said.Id (toZ w64 (ofZ w64 x))) e
+        ∙ ap said.Id (toZ-ofZ (neg-fits v h))
+        ∙ sym (rw (le-leb 1 n lo, le-leb n 19 hi, le-leb v (2 ^ 63) h))
+
+    pub id-high : 9223372036854775808 ≤ v → said.Bad ≡ idIn (Digits false n v)
+    id-high h = sym (rw (le-leb 1 n lo, le-leb n 19 hi, le-ltb v (2 ^ 63) h))
+
+    pub id-positive : v < 9223372036854775808 → said.Id (toZ w64 v) ≡ idIn (Digits false n v)
+    id-positive h = ap said.Id (toZ-pos w64 h) ∙ sym (rw (le-leb 1 n lo, le-leb n 19 hi, lt-ltb v (2 ^ 63) h))
