@@ -2,31 +2,27 @@
 use mathlib.Core.Path.{_≡_}
 use Prim.Native.Nat.{ℕ, _*_, _-_, _<_, _≤_}
 use mathlib.Core.List.{List}
-use lib.IntN.{ℤ, pos}
+use lib.IntN.{ℤ}
 use lib.ListN.{length}
 use Rattle.sums.specs.Ids.{Ids, total}
-use Rattle.sums.specs.Cuts.{size, parts, held, Interval, none}
+use Rattle.sums.specs.Cuts.{size, parts, held}
 use Rattle.sums.specs.Planned.{Planned}
 use Rattle.layout.specs.Mem.{Mem}
 use Rattle.cuts.specs.Plan.{planBy, planOf}
-use Rattle.cuts.specs.Spans.{intervalOf, idsBy, ranksBy}
+use Rattle.cuts.specs.Spans.{intervalOf, spanAt, idsBy, ranksBy}
 use Rattle.cuts.specs.declared.plan.Planning.the-variants.{Made, Refused}
-use Rattle.cuts.specs.declared.plan.Spanned.{Spanned}
 use Rattle.cuts.specs.declared.plan.Spanned.the-variants as spanned
 use Rattle.cuts.specs.declared.plan.Ranks.the-variants as ranks
-
--- the interval that `ids` answers; a refusal has none, and stands for an empty one here
-abbrev pub interval : Spanned → Interval
-interval (spanned.Of i) = intervalOf i
-interval (spanned.Refused c) = record { low = pos 0; high = none }
 
 -- planning for S into the boundaries bs, on memory x that stands for the set P, ranked
 pub record Cuts (P : Ids) (x : Mem) (S : ℕ) (bs : List ℤ) : Type 0 where
   -- it refuses exactly when there are more boundaries than room, and then writes none
   pub refuses : length bs < parts (total P) S - 1 → (planBy x S bs .answer ≡ Refused 11) × (planBy x S bs .bounds ≡ bs)
   pub makes : parts (total P) S - 1 ≤ length bs → planBy x S bs .answer ≡ Made (planOf (total P) S)
-  -- else the intervals that `ids` answers cover every i64 once, interval k holds exactly the members ranked from kS up to (k+1)S, and no cutting has fewer
-  pub cuts : parts (total P) S - 1 ≤ length bs → Planned P S (parts (total P) S) (λ (k : ℕ). interval (idsBy (planOf (total P) S) (planBy x S bs .bounds) k))
+  -- else `ids` answers intervals that cover every i64 once, interval k holds exactly the members ranked from kS up to (k+1)S, and no cutting has fewer
+  pub ids : parts (total P) S - 1 ≤ length bs → (k : ℕ) → k < parts (total P) S →
+      idsBy (planOf (total P) S) (planBy x S bs .bounds) k ≡ spanned.Of (spanAt (planOf (total P) S) (planBy x S bs .bounds) k)
+  pub cuts : parts (total P) S - 1 ≤ length bs → Planned P S (parts (total P) S) (λ (k : ℕ). intervalOf (spanAt (planOf (total P) S) (planBy x S bs .bounds) k))
   -- and `ranks` answers their first ranks and counts
   pub counts : parts (total P) S - 1 ≤ length bs → (k : ℕ) → k < parts (total P) S →
-      ranksBy (planOf (total P) S) k ≡ ranks.Of (k * size S) (held P (interval (idsBy (planOf (total P) S) (planBy x S bs .bounds) k)))
+      ranksBy (planOf (total P) S) k ≡ ranks.Of (k * size S) (held P (intervalOf (spanAt (planOf (total P) S) (planBy x S bs .bounds) k)))
