@@ -37,6 +37,9 @@ bp_answer bp_set(BP_SET_MUT, int64_t id);
 bp_answer bp_set_if_new(BP_SET_MUT, int64_t id);
 bp_answer bp_set_prepared(BP_SET_MUT, int64_t id);
 
+/* Every chunk from 0 to the maximum's becomes dense. */
+bp_answer bp_pre_allocate(BP_SET_MUT, int64_t max);
+
 /* Membership, yes or no; the chunk id of an id, or none. */
 bp_answer bp_get(BP_SET, int64_t id);
 bp_answer bp_chunk_of(BP_SET, int64_t id);

@@ -2,6 +2,10 @@
 use Prim.Native.Nat.{ℕ}
 use mathlib.Core.Path.{_≡_}
 use mathlib.Core.Bool.{Bool, true, false}
+use lib.IntN.{ℤ}
+use Rattle.layout.specs.Mem.{Mem}
+use Rattle.layout.specs.SetUp.{did}
+use Rattle.layout.specs.Follows.{Follows}
 use Rattle.layout.specs.declared.answer.Outcome.{Outcome}
 use Rattle.layout.specs.declared.answer.Outcome.the-variants as outcome
 use Rattle.layout.specs.declared.answer.Truth.{Truth}
@@ -10,6 +14,8 @@ use Rattle.layout.specs.declared.answer.Amount.{Amount}
 use Rattle.layout.specs.declared.answer.Amount.the-variants as amount
 use Rattle.layout.specs.declared.answer.Perhaps.{Perhaps}
 use Rattle.layout.specs.declared.answer.Perhaps.the-variants as perhaps
+use Rattle.calls.specs.Prepare.{prepareBy}
+use Rattle.calls.specs.Promise.{Prepares}
 use Rattle.exports.specs.declared.answer.Answer.{Answer}
 
 abbrev pub code : ℕ → ℕ → Answer
@@ -41,3 +47,7 @@ pub record Coded {A : Type 0} (code : A → Answer) (says : A → Type 0) (r : A
   pub answer : A
   pub coded : r ≡ code answer
   pub said : says answer
+
+-- `pre_allocate`, from memory x to memory y
+abbrev pub PreAllocates : Mem → ℤ → Outcome → Mem → Type 0
+PreAllocates x z a y = (did a y ≡ prepareBy x z) × (Follows x → Prepares x z a y)

@@ -6,7 +6,7 @@ ghost use Rattle.layout.specs.declared.answer.Outcome.{Outcome};
 ghost use Rattle.layout.specs.declared.answer.Truth.{Truth};
 ghost use Rattle.inserts.specs.Calls.{Sets, SetsIfNew, SetsPrepared};
 ghost use Rattle.ranked.specs.Answers.{RankedUp, Opened};
-ghost use Rattle.exports.specs.Codes.{Coded, outcomeCode, truthCode};
+ghost use Rattle.exports.specs.Codes.{Coded, outcomeCode, truthCode, PreAllocates};
 use crate::answer;
 use crate::answer::Answer;
 use inserts::insert;
@@ -72,6 +72,20 @@ pub extern "C" fn bp_set_prepared(
     ensures { λ r. ⌜ Coded truthCode (λ (a : Truth). SetsPrepared (memOf (pages .entry) (rows .entry) (blocks .entry) (table .entry)) id a (memOf (pages .exit) (rows .exit) (blocks .exit) (table .exit))) r ⌝ }
 {
     answer::of_truth(insert::set_prepared(pages, rows, blocks, table, id))
+}
+
+// Every chunk from 0 to the maximum's becomes dense, with its members.
+#[no_mangle]
+pub extern "C" fn bp_pre_allocate(
+    pages: &mut [u64],
+    rows: &mut [u32],
+    blocks: &mut [u32],
+    table: &mut [u64],
+    max: i64,
+) -> Answer
+    ensures { λ r. ⌜ Coded outcomeCode (λ (a : Outcome). PreAllocates (memOf (pages .entry) (rows .entry) (blocks .entry) (table .entry)) max a (memOf (pages .exit) (rows .exit) (blocks .exit) (table .exit))) r ⌝ }
+{
+    answer::of_outcome(prepare::pre_allocate(pages, rows, blocks, table, max))
 }
 
 // Counts for ranks: the set is ranked.
