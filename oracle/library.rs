@@ -19,7 +19,7 @@ pub fn refused(n: u64) -> Answer {
     Answer { kind: 2, value: n }
 }
 
-#[derive(Clone, Copy)]
+#[derive(Clone, Copy, PartialEq, Eq, Debug)]
 pub struct Sizes {
     pub s: u64,
     pub m: u64,
@@ -29,16 +29,26 @@ pub struct Sizes {
     pub p: u64,
 }
 
+impl Sizes {
+    /// The least lengths of pages, rows, block counts and table; sizes have to be in document 01's table.
+    pub fn needs(self) -> [usize; 4] {
+        let z = self;
+        [z.p << (z.s - 6), z.r * z.m, z.p << (z.s - 9), 16 + 2 * z.d + 3 * z.v + z.r + z.p].map(|n| n as usize)
+    }
+}
+
 /// Elements past the sizes, never to be written.
 const SPARE: usize = 3;
 const MARK: u32 = 0x5a5a_5a5a;
 
+/// The last `kept` elements of each are not lent: no call may touch them, whatever memory holds.
 #[derive(Clone, PartialEq)]
 pub struct Memory {
-    pages: Vec<u64>,
-    rows: Vec<u32>,
-    blocks: Vec<u32>,
-    table: Vec<u64>,
+    pub pages: Vec<u64>,
+    pub rows: Vec<u32>,
+    pub blocks: Vec<u32>,
+    pub table: Vec<u64>,
+    pub kept: usize,
 }
 
 macro_rules! entries {
@@ -51,10 +61,11 @@ macro_rules! entries {
         }
         impl Memory {
             $(pub fn $name(&mut self $(, $arg: $ty)*) -> $out {
+                let [pages, rows, blocks, table] = self.lent();
                 unsafe {
                     $name(
-                        self.pages.as_mut_ptr(), self.pages.len(), self.rows.as_mut_ptr(), self.rows.len(),
-                        self.blocks.as_mut_ptr(), self.blocks.len(), self.table.as_mut_ptr(), self.table.len(), $($arg),*
+                        self.pages.as_mut_ptr(), pages, self.rows.as_mut_ptr(), rows,
+                        self.blocks.as_mut_ptr(), blocks, self.table.as_mut_ptr(), table, $($arg),*
                     )
                 }
             })*
@@ -90,24 +101,45 @@ unsafe extern "C" {
 }
 
 impl Memory {
+    /// Memory of these lengths, full of marks.
+    pub fn marked([pages, rows, blocks, table]: [usize; 4]) -> Memory {
+        Memory {
+            pages: vec![MARK.into(); pages],
+            rows: vec![MARK; rows],
+            blocks: vec![MARK; blocks],
+            table: vec![MARK.into(); table],
+            kept: 0,
+        }
+    }
+
     /// Memory full of marks, set up.
     pub fn new(z: Sizes) -> Memory {
-        let spare = |n: u64| n as usize + SPARE;
-        let mut x = Memory {
-            pages: vec![MARK.into(); spare(z.p << (z.s - 6))],
-            rows: vec![MARK; spare(z.r * z.m)],
-            blocks: vec![MARK; spare(z.p << (z.s - 9))],
-            table: vec![MARK.into(); spare(16 + 2 * z.d + 3 * z.v + z.r + z.p)],
-        };
-        let a = unsafe {
+        let mut x = Memory::marked(z.needs().map(|n| n + SPARE));
+        assert_eq!(x.bp_set_up(z), DONE);
+        x
+    }
+
+    /// Whether the elements from these on hold their marks.
+    pub fn marked_from(&self, [pages, rows, blocks, table]: [usize; 4]) -> bool {
+        let end64 = |t: &[u64]| t.iter().all(|&w| w == u64::from(MARK));
+        let end32 = |t: &[u32]| t.iter().all(|&w| w == MARK);
+        end64(&self.pages[pages..]) && end32(&self.rows[rows..]) && end32(&self.blocks[blocks..]) && end64(&self.table[table..])
+    }
+
+    pub fn bp_set_up(&mut self, z: Sizes) -> Answer {
+        let [pages, rows, blocks, table] = self.lent();
+        unsafe {
             bp_set_up(
                 z.s, z.m, z.d, z.v, z.r, z.p,
-                x.pages.as_mut_ptr(), x.pages.len(), x.rows.as_mut_ptr(), x.rows.len(),
-                x.blocks.as_mut_ptr(), x.blocks.len(), x.table.as_mut_ptr(), x.table.len(),
+                self.pages.as_mut_ptr(), pages, self.rows.as_mut_ptr(), rows,
+                self.blocks.as_mut_ptr(), blocks, self.table.as_mut_ptr(), table,
             )
-        };
-        assert_eq!(a, DONE);
-        x
+        }
+    }
+
+    /// How many elements of each are lent.
+    pub fn lent(&self) -> [usize; 4] {
+        [self.pages.len(), self.rows.len(), self.blocks.len(), self.table.len()].map(|n| n - self.kept)
     }
 
     /// Whether the elements past the sizes still hold their marks.

@@ -1,5 +1,5 @@
-//! Which refusal document 01 gives, from its words alone: kinds by chunk id, counted on the state after the call.
-use crate::library::Sizes;
+//! Which of the refusals 6, 7 and 8 document 01 gives, from its words alone: kinds by chunk id, counted on the state after the call.
+use crate::call::Sizes;
 use std::collections::{BTreeMap, BTreeSet};
 
 #[derive(Clone, Default)]
@@ -8,9 +8,18 @@ struct Chunk {
     offsets: BTreeSet<u64>,
 }
 
+#[derive(Clone)]
 pub struct Room {
     sizes: Sizes,
     chunks: BTreeMap<u64, Chunk>,
+}
+
+/// Chunks with an overflow entry, sparse ones, dense ones.
+#[derive(Default)]
+struct Needs {
+    over: u64,
+    sparse: u64,
+    dense: u64,
 }
 
 impl Room {
@@ -22,14 +31,22 @@ impl Room {
         (id >= 0).then(|| (id as u64 >> self.sizes.s, id as u64 & ((1 << self.sizes.s) - 1)))
     }
 
-    fn verdict(&self, after: &BTreeMap<u64, Chunk>) -> Result<(), u64> {
-        let over = after.keys().filter(|&&c| c >= self.sizes.d).count() as u64;
-        let dense = after.values().filter(|c| c.dense).count() as u64;
-        let sparse = after.len() as u64 - dense;
+    /// What the chunks need that the call leaves alone.
+    fn others(&self, left_alone: impl Fn(u64) -> bool) -> Needs {
+        let mut n = Needs::default();
+        for (&c, chunk) in self.chunks.iter().filter(|(c, _)| left_alone(**c)) {
+            n.over += u64::from(c >= self.sizes.d);
+            n.dense += u64::from(chunk.dense);
+            n.sparse += u64::from(!chunk.dense);
+        }
+        n
+    }
+
+    fn verdict(&self, n: Needs) -> Result<(), u64> {
         match () {
-            _ if over > self.sizes.v => Err(6),
-            _ if sparse > self.sizes.r => Err(7),
-            _ if dense > self.sizes.p => Err(8),
+            _ if n.over > self.sizes.v => Err(6),
+            _ if n.sparse > self.sizes.r => Err(7),
+            _ if n.dense > self.sizes.p => Err(8),
             _ => Ok(()),
         }
     }
@@ -37,15 +54,19 @@ impl Room {
     /// Takes the id in, or says the refusal.
     pub fn insert(&mut self, id: i64) -> Result<(), u64> {
         let Some((c, o)) = self.split(id) else { return Ok(()) };
+        let (dense, members) = self.chunks.get(&c).map_or((false, 0), |k| (k.dense, k.offsets.len() as u64));
         if self.chunks.get(&c).is_some_and(|k| k.offsets.contains(&o)) {
             return Ok(());
         }
-        let mut after = self.chunks.clone();
-        let chunk = after.entry(c).or_default();
+        let dense = dense || members + 1 > self.sizes.m;
+        let mut n = self.others(|other| other != c);
+        n.over += u64::from(c >= self.sizes.d);
+        n.dense += u64::from(dense);
+        n.sparse += u64::from(!dense);
+        self.verdict(n)?;
+        let chunk = self.chunks.entry(c).or_default();
         chunk.offsets.insert(o);
-        chunk.dense |= chunk.offsets.len() as u64 > self.sizes.m;
-        self.verdict(&after)?;
-        self.chunks = after;
+        chunk.dense = dense;
         Ok(())
     }
 
@@ -58,16 +79,14 @@ impl Room {
         }
     }
 
+    /// Makes every chunk from 0 to the maximum's dense, or says the refusal, by arithmetic alone.
     pub fn prepare(&mut self, max: i64) -> Result<(), u64> {
         let Some((last, _)) = self.split(max) else { return Ok(()) };
-        // more chunks than any sizes hold: 6 if they reach past the direct entries and V, else 8
-        if last > 1 << 20 {
-            return Err(6);
-        }
-        let mut after = self.chunks.clone();
-        (0..=last).for_each(|c| after.entry(c).or_default().dense = true);
-        self.verdict(&after)?;
-        self.chunks = after;
+        let mut n = self.others(|other| other > last);
+        n.over += (last + 1).saturating_sub(self.sizes.d);
+        n.dense += last + 1;
+        self.verdict(n)?;
+        (0..=last).for_each(|c| self.chunks.entry(c).or_default().dense = true);
         Ok(())
     }
 }

@@ -1,0 +1,109 @@
+//! Calls and what they answer, as the program `replay` reads and writes them: one line each.
+pub use crate::library::Sizes;
+use std::fmt;
+
+/// What planning hands out, and what asking for a partition gives back.
+#[derive(Clone, Copy, PartialEq, Debug)]
+pub struct Record {
+    pub total: u64,
+    pub slots: u64,
+    pub partitions: u64,
+}
+
+#[derive(Clone, Copy, PartialEq, Debug)]
+pub enum Call {
+    SetUp(Sizes),
+    Check,
+    Set(i64),
+    New(i64),
+    Put(i64),
+    Prepare(i64),
+    Get(i64),
+    Len,
+    Chunks,
+    Empty,
+    Has,
+    Chunk(i64),
+    RankUp,
+    Open,
+    Rank(i64),
+    RankIf(i64),
+    Total,
+    Plan { slots: u64, room: u64 },
+    Part { record: Record, room: u64, k: u64 },
+    Slots(u64),
+    Bounded(i64, u64, u64),
+}
+
+impl Call {
+    /// The line for set k. The last two speak of no set.
+    pub fn line(&self, k: usize) -> String {
+        match *self {
+            Call::SetUp(z) => format!("setup {k} {} {} {} {} {} {}", z.s, z.m, z.d, z.v, z.r, z.p),
+            Call::Check => format!("check {k}"),
+            Call::Set(id) => format!("set {k} {id}"),
+            Call::New(id) => format!("new {k} {id}"),
+            Call::Put(id) => format!("put {k} {id}"),
+            Call::Prepare(max) => format!("prepare {k} {max}"),
+            Call::Get(id) => format!("get {k} {id}"),
+            Call::Len => format!("len {k}"),
+            Call::Chunks => format!("chunks {k}"),
+            Call::Empty => format!("empty {k}"),
+            Call::Has => format!("has {k}"),
+            Call::Chunk(id) => format!("chunk {k} {id}"),
+            Call::RankUp => format!("rankup {k}"),
+            Call::Open => format!("open {k}"),
+            Call::Rank(id) => format!("rank {k} {id}"),
+            Call::RankIf(id) => format!("rankif {k} {id}"),
+            Call::Total => format!("total {k}"),
+            Call::Plan { slots, room } => format!("plan {k} {slots} {room}"),
+            Call::Part { record: r, room, k: part } => format!("part {k} {} {} {} {room} {part}", r.total, r.slots, r.partitions),
+            Call::Slots(b) => format!("slots {b}"),
+            Call::Bounded(claim, length, per) => format!("bounded {claim} {length} {per}"),
+        }
+    }
+
+    /// Whether an accepted call may change lent memory.
+    pub fn writes(&self) -> bool {
+        matches!(
+            self,
+            Call::SetUp(_) | Call::Set(_) | Call::New(_) | Call::Put(_) | Call::Prepare(_) | Call::RankUp | Call::Open | Call::Plan { .. }
+        )
+    }
+}
+
+#[derive(Clone, PartialEq, Debug)]
+pub enum Said {
+    Ok,
+    Yes(bool),
+    Truth(bool),
+    Number(u64),
+    Signed(i64),
+    Nothing,
+    Refused(u64),
+    Planned(Record, Vec<i64>),
+    Part { low: i64, high: Option<i64>, first: u64, count: u64 },
+}
+
+impl fmt::Display for Said {
+    fn fmt(&self, f: &mut fmt::Formatter) -> fmt::Result {
+        match self {
+            Said::Ok => write!(f, "ok"),
+            Said::Yes(b) => write!(f, "{}", if *b { "yes" } else { "no" }),
+            Said::Truth(b) => write!(f, "{b}"),
+            Said::Number(n) => write!(f, "{n}"),
+            Said::Signed(n) => write!(f, "{n}"),
+            Said::Nothing => write!(f, "none"),
+            Said::Refused(c) => write!(f, "refused {c}"),
+            Said::Planned(r, bounds) => {
+                write!(f, "{} {} {}", r.total, r.slots, r.partitions)?;
+                bounds.iter().try_for_each(|b| write!(f, " {b}"))
+            }
+            Said::Part { low, high, first, count } => {
+                if *low == i64::MIN { write!(f, "min")? } else { write!(f, "{low}")? }
+                if let Some(h) = high { write!(f, " {h}")? } else { write!(f, " end")? }
+                write!(f, " {first} {count}")
+            }
+        }
+    }
+}

@@ -1,0 +1,157 @@
+//! The library linked through `exports`: each call is compared at once, memory after each refusal, elements past the sizes at the end.
+use crate::call::{Call, Record, Said, Sizes};
+use crate::library::{Answer, Memory};
+use crate::locations;
+use crate::planning;
+use crate::rust::BOUNDARIES;
+use crate::script::Way;
+
+struct Set {
+    memory: Memory,
+    bounds: Vec<i64>,
+    /// How much of each slice an accepted set-up needed, at most.
+    used: [usize; 4],
+}
+
+pub struct Linked {
+    sizes: Sizes,
+    sets: Vec<Set>,
+}
+
+fn ok(a: Answer) -> Said {
+    match a.kind {
+        0 => Said::Ok,
+        _ => refused(a),
+    }
+}
+
+fn refused(a: Answer) -> Said {
+    assert_eq!(a.kind, 2, "an answer of no known kind");
+    Said::Refused(a.value)
+}
+
+fn truth(a: Answer) -> Said {
+    match (a.kind, a.value) {
+        (1, n @ 0..=1) => Said::Truth(n == 1),
+        _ => refused(a),
+    }
+}
+
+fn number(a: Answer) -> Said {
+    match a.kind {
+        1 => Said::Number(a.value),
+        _ => refused(a),
+    }
+}
+
+fn perhaps(a: Answer) -> Said {
+    match a.kind {
+        0 => Said::Nothing,
+        _ => number(a),
+    }
+}
+
+impl Set {
+    fn answer(&mut self, call: &Call) -> Said {
+        let x = &mut self.memory;
+        match *call {
+            Call::SetUp(z) => ok(x.bp_set_up(z)),
+            Call::Check => Said::Yes(x.bp_check()),
+            Call::Set(id) => ok(x.bp_set(id)),
+            Call::New(id) => truth(x.bp_set_if_new(id)),
+            Call::Put(id) => truth(x.bp_set_prepared(id)),
+            Call::Prepare(max) => ok(x.bp_pre_allocate(max)),
+            Call::Get(id) => truth(x.bp_get(id)),
+            Call::Len => number(x.bp_len()),
+            Call::Chunks => number(x.bp_allocated_chunk_count()),
+            Call::Empty => truth(x.bp_is_empty()),
+            Call::Has => truth(x.bp_has_any()),
+            Call::Chunk(id) => perhaps(x.bp_chunk_of(id)),
+            Call::RankUp => ok(x.bp_into_ranked()),
+            Call::Open => ok(x.bp_into_open()),
+            Call::Rank(id) => number(x.bp_rank(id)),
+            Call::RankIf(id) => perhaps(x.bp_rank_if_set(id)),
+            Call::Total => number(x.bp_total_count()),
+            Call::Plan { slots, room } => self.plan(slots, room as usize),
+            Call::Part { record, room, k } => self.part(record, room as usize, k),
+            Call::Slots(b) => Said::Number(planning::slots_for_budget(b)),
+            Call::Bounded(claim, length, per) => Said::Signed(planning::file_bounded_max_id(claim, length, per)),
+        }
+    }
+
+    /// Boundaries past those of the plan stay, all of them where it is refused.
+    fn plan(&mut self, slots: u64, room: usize) -> Said {
+        let before = self.bounds.clone();
+        let a = self.memory.plan(slots, &mut self.bounds[..room]);
+        let written = if a.kind == 1 { a.partitions as usize - 1 } else { 0 };
+        assert!(self.bounds[written..] == before[written..], "planning wrote past its boundaries");
+        match a.kind {
+            1 => Said::Planned(Record { total: a.total, slots: a.slots, partitions: a.partitions }, self.bounds[..written].to_vec()),
+            _ => refused(Answer { kind: a.kind, value: a.refusal }),
+        }
+    }
+
+    fn part(&mut self, p: Record, room: usize, k: u64) -> Said {
+        let i = planning::ids(p, &self.bounds[..room], k);
+        let r = planning::ranks(p, k);
+        if i.kind == 2 {
+            return Said::Refused(i.refusal);
+        }
+        assert_eq!(r.kind, 1, "ranks refused where ids answered");
+        let high = (i.kind == 1).then_some(i.high);
+        intervals_agree(i.low, high);
+        Said::Part { low: i.low, high, first: r.first, count: r.count }
+    }
+}
+
+/// What lies in an interval, around its ends.
+fn intervals_agree(low: i64, high: Option<i64>) {
+    let ends = [low, high.unwrap_or(0), i64::MIN, i64::MAX, 0];
+    let near = ends.iter().flat_map(|e| [e.wrapping_sub(1), *e, e.wrapping_add(1)]);
+    let near: Vec<i64> = near.collect();
+    for &id in &near {
+        assert_eq!(planning::in_partition(id, low, high), locations::in_partition(id, (low, high)), "in_partition {id} of {low} {high:?}");
+        for &max in &near {
+            assert_eq!(planning::range_meets(id, max, low, high), locations::range_meets(id, max, (low, high)), "range_meets {id} {max} of {low} {high:?}");
+        }
+    }
+}
+
+impl Linked {
+    pub fn new(sizes: Sizes) -> Linked {
+        Linked { sizes, sets: Vec::new() }
+    }
+}
+
+impl Way for Linked {
+    /// What the sizes need and a little more.
+    fn lends(&self, z: Sizes) -> [usize; 4] {
+        z.needs().map(|n| n + 3)
+    }
+
+    fn begin(&mut self) -> bool {
+        let lent = self.lends(self.sizes);
+        self.sets = (0..2).map(|_| Set { memory: Memory::marked(lent), bounds: vec![-7; BOUNDARIES], used: [0; 4] }).collect();
+        true
+    }
+
+    fn call(&mut self, k: usize, call: &Call, wanted: &Said) {
+        let set = &mut self.sets[k];
+        let stays = matches!(wanted, Said::Refused(_)) || (!call.writes() && self.sizes.s < 12);
+        let before = stays.then(|| set.memory.clone());
+        let said = set.answer(call);
+        assert!(said == *wanted, "{}\nwanted {wanted}\nsaid   {said}", call.line(k));
+        assert!(before.is_none_or(|before| before == set.memory), "{}: memory is not as it was", call.line(k));
+        if let (Call::SetUp(z), Said::Ok) = (call, &said) {
+            for (used, needs) in set.used.iter_mut().zip(z.needs()) {
+                *used = needs.max(*used);
+            }
+        }
+    }
+
+    fn end(&mut self) {
+        for set in &self.sets {
+            assert!(set.memory.marked_from(set.used), "an element past the sizes was written");
+        }
+    }
+}

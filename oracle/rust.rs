@@ -1,0 +1,166 @@
+//! One set as the Rust has it, with document 01's refusals where the Rust has none: the answer that each call is to give.
+use crate::call::{Call, Record, Said, Sizes};
+use crate::idset::{IdSet, RankedIdSet};
+use crate::locations;
+use crate::room::Room;
+
+pub const BOUNDARIES: usize = 256;
+
+pub struct Side {
+    /// How long the lent slices are.
+    lent: [usize; 4],
+    room: Option<Room>,
+    set: IdSet,
+    ranked: Option<RankedIdSet>,
+    bounds: Vec<i64>,
+    /// Boundaries and partitions of the last plan.
+    planned: Option<(Record, Vec<(i64, Option<i64>, u64, u64)>)>,
+}
+
+/// The Rust's set has no copy; a union into an empty one copies each chunk with its kind.
+fn copied(set: &IdSet) -> IdSet {
+    let mut copy = IdSet::new();
+    copy.merge_from(set);
+    copy
+}
+
+fn told(r: Result<bool, u64>) -> Said {
+    r.map_or_else(Said::Refused, Said::Truth)
+}
+
+fn done(r: Result<(), u64>) -> Said {
+    r.map_or_else(Said::Refused, |()| Said::Ok)
+}
+
+impl Clone for Side {
+    fn clone(&self) -> Side {
+        Side {
+            lent: self.lent,
+            room: self.room.clone(),
+            set: copied(&self.set),
+            ranked: self.ranked.as_ref().map(|_| copied(&self.set).into_ranked()),
+            bounds: self.bounds.clone(),
+            planned: self.planned.clone(),
+        }
+    }
+}
+
+impl Side {
+    pub fn new(lent: [usize; 4]) -> Side {
+        Side { lent, room: None, set: IdSet::new(), ranked: None, bounds: vec![0; BOUNDARIES], planned: None }
+    }
+
+    pub fn is_ranked(&self) -> bool {
+        self.ranked.is_some()
+    }
+
+    pub fn last_plan(&self) -> Option<Record> {
+        self.planned.as_ref().map(|p| p.0)
+    }
+
+    /// The answer, and this side changed as the call changes it.
+    pub fn answer(&mut self, call: &Call) -> Said {
+        match *call {
+            Call::SetUp(z) => self.set_up(z),
+            Call::Check => Said::Yes(self.room.is_some()),
+            Call::Part { record, room, k } => self.part(record, room, k),
+            Call::Slots(b) => Said::Number(locations::slots_for_budget(b)),
+            Call::Bounded(claim, length, per) => Said::Signed(IdSet::file_bounded_max_id(claim, length, per)),
+            _ if self.room.is_none() => Said::Refused(3),
+            Call::Get(id) => Said::Truth(self.get(id)),
+            Call::Len => Said::Number(self.set.len()),
+            Call::Chunks => Said::Number(self.set.allocated_chunk_count() as u64),
+            Call::Empty => Said::Truth(self.set.is_empty()),
+            Call::Has => Said::Truth(self.set.has_any()),
+            Call::Chunk(id) => IdSet::chunk_of(id).map_or(Said::Nothing, Said::Number),
+            Call::Set(_) | Call::New(_) | Call::Put(_) | Call::Prepare(_) | Call::RankUp => self.open_call(call),
+            Call::Open | Call::Rank(_) | Call::RankIf(_) | Call::Total | Call::Plan { .. } => self.ranked_call(call),
+        }
+    }
+
+    fn set_up(&mut self, z: Sizes) -> Said {
+        let allowed = (9..=25).contains(&z.s) && (1..=1024).contains(&z.m) && z.d <= 262_144 && z.v <= 65_536 && z.r <= 65_536 && z.p <= 65_536;
+        if !allowed {
+            return Said::Refused(1);
+        }
+        if z.needs().iter().zip(self.lent).any(|(need, lent)| *need > lent) {
+            return Said::Refused(2);
+        }
+        (self.room, self.set, self.ranked) = (Some(Room::new(z)), IdSet::new(), None);
+        Said::Ok
+    }
+
+    fn get(&self, id: i64) -> bool {
+        let open = self.set.get(id);
+        assert!(self.ranked.as_ref().is_none_or(|r| r.get(id) == open), "the Rust's two forms differ");
+        open
+    }
+
+    fn open_call(&mut self, call: &Call) -> Said {
+        let (Some(room), None) = (&mut self.room, &self.ranked) else { return Said::Refused(4) };
+        match *call {
+            Call::New(id) => told(room.insert(id).map(|()| self.set.set_if_new(id))),
+            Call::Set(id) => done(room.insert(id).map(|()| self.set.set(id))),
+            Call::Put(id) => {
+                let wanted = room.prepared(id);
+                told(wanted.and_then(|_| self.put(id)).or_else(|c| self.set.set_atomic_if_new_checked(id).ok_or(c)))
+            }
+            Call::Prepare(max) => done(room.prepare(max).map(|()| self.set.pre_allocate(max))),
+            _ => {
+                self.ranked = Some(copied(&self.set).into_ranked());
+                Said::Ok
+            }
+        }
+    }
+
+    /// All four atomic inserts: one of the two that answer, then the two that don't ask whether it is new.
+    fn put(&self, id: i64) -> Result<bool, u64> {
+        let new = if id % 2 == 0 { self.set.set_atomic_if_new(id) } else { self.set.set_atomic_if_new_checked(id).ok_or(9u64)? };
+        self.set.set_atomic(id);
+        assert!(self.set.set_atomic_checked(id), "the Rust's atomic inserts differ");
+        Ok(new)
+    }
+
+    fn ranked_call(&mut self, call: &Call) -> Said {
+        let Some(ranked) = &self.ranked else { return Said::Refused(5) };
+        match *call {
+            Call::Rank(id) => Said::Number(ranked.rank(id)),
+            Call::RankIf(id) => ranked.rank_if_set(id).map_or(Said::Nothing, Said::Number),
+            Call::Total => Said::Number(ranked.total_count()),
+            Call::Plan { slots, room } => {
+                let total = ranked.total_count();
+                let partitions = total.div_ceil(slots.max(1)).max(1);
+                if partitions - 1 > room {
+                    return Said::Refused(11);
+                }
+                let (bounds, parts) = locations::planned(ranked, slots);
+                let record = Record { total, slots: slots.max(1), partitions: parts.len() as u64 };
+                self.bounds[..bounds.len()].copy_from_slice(&bounds);
+                self.planned = Some((record, parts));
+                Said::Planned(record, bounds)
+            }
+            _ => {
+                self.ranked = None;
+                Said::Ok
+            }
+        }
+    }
+
+    /// Of the last plan what the Rust says; of any other record what document 01 says.
+    fn part(&self, p: Record, room: u64, k: u64) -> Said {
+        if p.slots == 0 || p.partitions != p.total.div_ceil(p.slots).max(1) || p.partitions - 1 > room {
+            return Said::Refused(3);
+        }
+        if k >= p.partitions {
+            return Said::Refused(12);
+        }
+        let at = k as usize;
+        let low = if at == 0 { i64::MIN } else { self.bounds[at - 1] };
+        let high = (k + 1 < p.partitions).then(|| self.bounds[at]);
+        let (first, count) = (k * p.slots, p.slots.min(p.total - k * p.slots));
+        if let Some((_, parts)) = self.planned.as_ref().filter(|q| q.0 == p) {
+            assert_eq!(parts[at], (low, high, first, count), "the Rust's partition is another one");
+        }
+        Said::Part { low, high, first, count }
+    }
+}

@@ -1,0 +1,317 @@
+//! Sequences of calls on two sets: each call goes to the Rust's side for its answer, then to the library for comparison.
+use crate::call::{Call, Record, Said, Sizes};
+use crate::rust::{BOUNDARIES, Side};
+
+/// A way to reach the library.
+pub trait Way {
+    /// How long the slices are that it lends, for these sizes.
+    fn lends(&self, z: Sizes) -> [usize; 4];
+    /// A new sequence begins. Whether it does so on memory in which there are no sets yet.
+    fn begin(&mut self) -> bool;
+    /// This call on set k has to answer so.
+    fn call(&mut self, k: usize, call: &Call, wanted: &Said);
+    /// The sequence ends: whatever was not compared yet is.
+    fn end(&mut self);
+}
+
+pub struct Random(u64);
+
+impl Random {
+    pub fn new(seed: u64) -> Random {
+        Random(seed.wrapping_mul(0x9e37_79b9_7f4a_7c15) | 1)
+    }
+
+    pub fn next(&mut self) -> u64 {
+        self.0 ^= self.0 << 13;
+        self.0 ^= self.0 >> 7;
+        self.0 ^= self.0 << 17;
+        self.0
+    }
+
+    pub fn below(&mut self, n: u64) -> u64 {
+        self.next() % n
+    }
+
+    fn one_in(&mut self, n: u64) -> bool {
+        self.below(n) == 0
+    }
+
+    fn one_of<T: Copy>(&mut self, some: &[T]) -> T {
+        some[self.below(some.len() as u64) as usize]
+    }
+
+    /// Ids around every edge: negatives, chunk ends, the ends of i64, the last direct chunk, and members close together.
+    fn id(&mut self, z: Sizes, spread: u64) -> i64 {
+        let chunk = 1u64 << z.s;
+        let at = match self.below(24) {
+            0 => return -(self.below(5) as i64) - 1,
+            1 => return i64::MAX - self.below(chunk + 5) as i64,
+            2 => return i64::MIN,
+            3 => self.below(8) * chunk,
+            4 => self.below(8) * chunk + chunk - 1,
+            5 => (z.d + self.below(3)) * chunk + self.below(9),
+            6 => z.d.saturating_sub(1) * chunk + self.below(9),
+            _ => self.below(spread),
+        };
+        at as i64
+    }
+
+    /// Sizes to set up with: often those asked for, else smaller ones, or with one number at or past an edge. The Rust answers the same for every D, V, R and P.
+    fn sizes(&mut self, z: Sizes) -> Sizes {
+        let mut z = z;
+        match self.below(24) {
+            0 => z.s = self.one_of(&[0, 8, 26, 64, u64::MAX]),
+            1 => z.m = self.one_of(&[0, 1025, u64::MAX]),
+            2 => z.d = self.one_of(&[0, z.d + 1, 262_145, u64::MAX]),
+            3 => z.v = self.one_of(&[0, z.v + 1, 65_536, 65_537, u64::MAX]),
+            4 => z.r = self.one_of(&[0, z.r + 1, 65_536, 65_537, u64::MAX]),
+            5 => z.p = self.one_of(&[0, z.p + 1, 65_536, 65_537, u64::MAX]),
+            6..=11 => {
+                for n in [&mut z.d, &mut z.v, &mut z.r, &mut z.p] {
+                    *n = self.below(*n + 1);
+                }
+            }
+            _ => {}
+        }
+        z
+    }
+}
+
+/// What has been compared.
+#[derive(Default)]
+pub struct Tally {
+    pub sequences: u64,
+    pub calls: u64,
+    pub refusals: u64,
+}
+
+pub struct Script<'a> {
+    pub way: &'a mut dyn Way,
+    pub random: Random,
+    pub tally: Tally,
+    sizes: Sizes,
+    sides: [Side; 2],
+}
+
+impl<'a> Script<'a> {
+    pub fn new(way: &'a mut dyn Way, sizes: Sizes, seed: u64) -> Script<'a> {
+        let lent = way.lends(sizes);
+        Script { way, random: Random::new(seed), tally: Tally::default(), sizes, sides: [Side::new(lent), Side::new(lent)] }
+    }
+
+    fn begin(&mut self) -> bool {
+        let fresh = self.way.begin();
+        if fresh {
+            let lent = self.way.lends(self.sizes);
+            self.sides = [Side::new(lent), Side::new(lent)];
+        }
+        self.tally.sequences += 1;
+        fresh
+    }
+
+    fn say(&mut self, k: usize, call: Call) -> Said {
+        let wanted = self.sides[k].answer(&call);
+        self.way.call(k, &call, &wanted);
+        self.tally.calls += 1;
+        self.tally.refusals += u64::from(matches!(wanted, Said::Refused(_)));
+        wanted
+    }
+
+    fn set_up(&mut self, k: usize) {
+        loop {
+            let z = self.random.sizes(self.sizes);
+            if self.say(k, Call::SetUp(z)) == Said::Ok {
+                return;
+            }
+        }
+    }
+
+    fn read(&mut self, k: usize, id: i64) -> Said {
+        let call = self.random.one_of(&[Call::Get(id), Call::Get(id), Call::Chunk(id), Call::Len, Call::Empty, Call::Has, Call::Chunks]);
+        self.say(k, call)
+    }
+
+    /// Offsets side by side, up to m - 1, m or m + 1 of them, somewhere in a chunk that is likely to be there.
+    fn burst(&mut self, k: usize) {
+        let g = &mut self.random;
+        let chunk = g.below(self.sizes.d.min(4) + 3);
+        let first = g.below((1 << self.sizes.s) / 2);
+        let step = 1 + g.below(3);
+        for i in 0..(self.sizes.m + g.below(3)).saturating_sub(1) {
+            self.say(k, Call::New(((chunk << self.sizes.s) + (first + i * step) % (1 << self.sizes.s)) as i64));
+        }
+    }
+
+    /// A call on an open set.
+    fn grow(&mut self, k: usize, id: i64) {
+        let max = if self.random.one_in(4) { id } else { self.random.below(3 << self.sizes.s) as i64 };
+        match self.random.below(100) {
+            0..=59 => self.say(k, Call::New(id)),
+            60..=66 => self.say(k, Call::Set(id)),
+            67..=76 => self.say(k, Call::Put(id)),
+            77..=79 => self.say(k, Call::Prepare(max)),
+            80 => self.say(k, Call::Rank(id)),
+            81 => self.say(k, Call::RankIf(id)),
+            82 => self.say(k, Call::Total),
+            83 => self.say(k, Call::Open),
+            84 => self.say(k, Call::Plan { slots: id as u64, room: 9 }),
+            85 => self.say(k, Call::RankUp),
+            86 => return self.burst(k),
+            _ => self.read(k, id),
+        };
+    }
+
+    /// A call on a ranked set.
+    fn ask(&mut self, k: usize, id: i64) {
+        match self.random.below(100) {
+            0..=39 => self.say(k, Call::Rank(id)),
+            40..=64 => self.say(k, Call::RankIf(id)),
+            65..=66 => self.say(k, Call::Total),
+            67 => self.say(k, Call::New(id)),
+            68 => self.say(k, Call::Set(id)),
+            69 => self.say(k, Call::Put(id)),
+            70 => self.say(k, Call::Prepare(id)),
+            71 => self.say(k, Call::RankUp),
+            72..=77 => return self.plan(k),
+            78..=82 => return self.part(k),
+            83..=85 => self.say(k, Call::Open),
+            _ => self.read(k, id),
+        };
+    }
+
+    /// A plan with few or many partitions, at times with one boundary too many for the room, and all its partitions.
+    fn plan(&mut self, k: usize) {
+        let Said::Number(total) = self.say(k, Call::Total) else { return };
+        let g = &mut self.random;
+        let slots = match g.below(6) {
+            0 => 0,
+            1 => g.next(),
+            2 => total,
+            3 => total.saturating_sub(1),
+            4 => total + 1,
+            _ => 1 + g.below(total + 2),
+        };
+        let needed = total.div_ceil(slots.max(1)).max(1) - 1;
+        let room = match g.below(4) {
+            0 => needed,
+            1 => needed.saturating_sub(1),
+            _ => BOUNDARIES as u64,
+        };
+        let room = room.min(BOUNDARIES as u64);
+        if let Said::Planned(record, _) = self.say(k, Call::Plan { slots, room }) {
+            for part in 0..=record.partitions.min(12) {
+                self.say(k, Call::Part { record, room, k: part });
+            }
+        }
+    }
+
+    /// A partition of the last plan's record, or of one that is a little off.
+    fn part(&mut self, k: usize) {
+        let Some(mut record) = self.sides[k].last_plan() else { return };
+        let g = &mut self.random;
+        let room = g.one_of(&[BOUNDARIES as u64, record.partitions - 1, record.partitions.saturating_sub(2)]).min(BOUNDARIES as u64);
+        match g.below(8) {
+            0 => record.slots = 0,
+            1 => record.partitions = g.one_of(&[0, 1, record.partitions + 1, u64::MAX]),
+            2 => record = Record { total: record.total + 1, ..record },
+            3 => record = Record { total: u64::MAX, slots: u64::MAX, partitions: 1 },
+            4 => record = Record { total: u64::MAX, slots: 1, partitions: u64::MAX },
+            _ => {}
+        }
+        let part = g.one_of(&[0, 1, record.partitions.wrapping_sub(1), record.partitions, u64::MAX]);
+        self.say(k, Call::Part { record, room, k: part });
+    }
+
+    fn pure(&mut self) {
+        let g = &mut self.random;
+        let any = |g: &mut Random| g.next() >> g.below(64);
+        let (b, length, per) = (any(g), any(g), any(g));
+        let claim = any(g) as i64;
+        self.say(0, Call::Slots(b));
+        self.say(0, Call::Bounded(claim, length, per));
+    }
+
+    /// A random sequence of about so many calls: mostly on set 0, with set 1 between.
+    pub fn random_sequence(&mut self, length: u64) {
+        if self.begin() {
+            for call in [Call::Check, Call::New(0), Call::Put(0), Call::Prepare(0), Call::RankUp, Call::Open, Call::Rank(0), Call::RankIf(0), Call::Total] {
+                self.say(0, call);
+            }
+            self.say(1, Call::Plan { slots: 1, room: 1 });
+            (0..9).for_each(|id| _ = self.read(1, id));
+        }
+        let spread = ((1 << self.sizes.s) * (1 + self.random.below(6)) / (1 + self.random.below(40))).max(1);
+        self.set_up(0);
+        self.set_up(1);
+        for _ in 0..self.random.below(length) {
+            let k = usize::from(self.random.one_in(6));
+            let id = self.random.id(self.sizes, spread + 9);
+            match self.random.below(400) {
+                0 => self.pure(),
+                1 => self.set_up(k),
+                2 => _ = self.say(k, Call::Check),
+                _ if self.sides[k].is_ranked() => self.ask(k, id),
+                _ => self.grow(k, id),
+            }
+        }
+        for k in 0..2 {
+            self.close(k, spread);
+        }
+        self.way.end();
+    }
+
+    /// Both forms once more, to the end.
+    fn close(&mut self, k: usize, spread: u64) {
+        self.say(k, Call::Check);
+        self.say(k, Call::RankUp);
+        self.say(k, Call::Check);
+        for _ in 0..9 {
+            let id = self.random.id(self.sizes, spread + 9);
+            self.ask(k, id);
+        }
+        self.plan(k);
+        self.say(k, Call::Open);
+        self.say(k, Call::Len);
+    }
+
+    /// Every sequence of so many calls out of `choices` after the calls of `start`; after each everything is asked about `ids`.
+    pub fn all_sequences(&mut self, start: &[Call], choices: &[Call], depth: u32, ids: &[i64]) {
+        for n in 0..(choices.len() as u64).pow(depth) {
+            self.begin();
+            self.say(0, Call::SetUp(self.sizes));
+            for &call in start {
+                self.say(0, call);
+            }
+            let mut rest = n;
+            for _ in 0..depth {
+                self.say(0, choices[(rest % choices.len() as u64) as usize]);
+                rest /= choices.len() as u64;
+            }
+            self.ask_all(ids);
+            self.way.end();
+        }
+    }
+
+    /// Everything about these ids, in the form that the set has, then ranked, then open again.
+    fn ask_all(&mut self, ids: &[i64]) {
+        for call in [Call::Check, Call::Len, Call::Empty, Call::Has, Call::Chunks] {
+            self.say(0, call);
+        }
+        ids.iter().for_each(|&id| _ = self.say(0, Call::Get(id)));
+        self.say(0, Call::RankUp);
+        self.say(0, Call::Check);
+        for &id in ids {
+            self.say(0, Call::Rank(id));
+            self.say(0, Call::RankIf(id));
+        }
+        for slots in 0..4 {
+            for room in [0, 1, 3, BOUNDARIES as u64] {
+                if let Said::Planned(record, _) = self.say(0, Call::Plan { slots, room }) {
+                    (0..=record.partitions).for_each(|k| _ = self.say(0, Call::Part { record, room, k }));
+                }
+            }
+        }
+        self.say(0, Call::Open);
+        self.say(0, Call::Check);
+    }
+}
