@@ -2,7 +2,8 @@
  *
  * Calling convention. A lent slice is two arguments: a pointer, then its number of elements (not of bytes). A pointer to no elements is aligned
  * and not null. Slices of one call don't overlap where one of them is written. Numbers are of the widths below; a bool is C's _Bool. An answer
- * comes back by value, in two registers. No call keeps a pointer, allocates, or has state of its own.
+ * comes back by value, as the platform's C returns a struct: each is a row of 64-bit fields in the order below, without gaps; bp_answer in two registers,
+ * the longer ones in memory that the caller's compiler names. No call keeps a pointer, allocates, or has state of its own.
  *
  * Four slices hold a set and are lent together, in this order: pages (64 bits), rows (32), block counts (32), table (64). */
 #ifndef BROTHPILLOW_H
@@ -59,6 +60,48 @@ bp_answer bp_into_open(BP_SET_COUNTS);
 bp_answer bp_rank(BP_SET, int64_t id);
 bp_answer bp_rank_if_set(BP_SET, int64_t id);
 bp_answer bp_total_count(BP_SET);
+
+/* A plan. kind 1: made; refusal is 0. 2: refused; refusal is the number, the rest is 0 and every slice is as it was. 40 bytes. */
+typedef struct {
+    uint64_t kind;
+    uint64_t refusal;
+    uint64_t total;
+    uint64_t slots;
+    uint64_t partitions;
+} bp_plan_answer;
+
+/* An interval of ids. kind 0: from low on, no high end; high is 0. 1: from low up to high, excluded. 2: refused; refusal is the number, low and high are 0.
+ * refusal is 0 where kind isn't 2. 32 bytes. */
+typedef struct {
+    uint64_t kind;
+    uint64_t refusal;
+    int64_t low;
+    int64_t high;
+} bp_ids_answer;
+
+/* The ranks of a partition. kind 1: first rank and count; refusal is 0. 2: refused; refusal is the number, first and count are 0. 32 bytes. */
+typedef struct {
+    uint64_t kind;
+    uint64_t refusal;
+    uint64_t first;
+    uint64_t count;
+} bp_ranks_answer;
+
+/* Cuts a ranked set into partitions of at most s members; s of 0 is read as 1. Boundaries 1, 2, .. go to bounds[0], bounds[1], ..; spare elements stay. */
+bp_plan_answer bp_plan(BP_SET, uint64_t s, int64_t *bounds, size_t bounds_n);
+
+/* Of a plan that bp_plan made (total, slots, partitions) and its boundaries: partition k's interval of ids, its first rank and count. 3, or 12. */
+bp_ids_answer bp_ids(uint64_t total, uint64_t slots, uint64_t partitions, const int64_t *bounds, size_t bounds_n, uint64_t k);
+bp_ranks_answer bp_ranks(uint64_t total, uint64_t slots, uint64_t partitions, uint64_t k);
+
+/* Whether an id lies in an interval, and whether a range of ids, both ends included, meets it. The interval is from low up to high, excluded, where
+ * has_high is true; else from low on, and high is not looked at. */
+bool bp_in_partition(int64_t id, bool has_high, int64_t low, int64_t high);
+bool bp_range_meets(int64_t min, int64_t max, bool has_high, int64_t low, int64_t high);
+
+/* The slots that a budget of bytes buys; the highest id that a file of this length allows where it claims one. */
+uint64_t bp_slots_for_budget(uint64_t bytes);
+int64_t bp_file_bounded_max_id(int64_t claim, uint64_t length, uint64_t per_byte);
 
 #ifdef __cplusplus
 }

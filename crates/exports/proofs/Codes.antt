@@ -1,5 +1,5 @@
 -- A code loses nothing: each kind of answer can be read back from it. Assumes nothing.
-use mathlib.Core.Path.{_≡_, refl, sym, ap, _∙_, subst}
+use mathlib.Core.Path.{_≡_, refl, sym, ap, ap₂, _∙_, subst}
 use mathlib.Core.Bool.{Bool, true, false, cond}
 use lib.Dec.{eqb}
 use lib.IntN.{ℤ}
@@ -15,8 +15,19 @@ use Rattle.layout.specs.declared.answer.Amount.{Amount}
 use Rattle.layout.specs.declared.answer.Amount.the-variants as amount
 use Rattle.layout.specs.declared.answer.Perhaps.{Perhaps}
 use Rattle.layout.specs.declared.answer.Perhaps.the-variants as perhaps
+use Rattle.cuts.specs.declared.plan.Planning.{Planning}
+use Rattle.cuts.specs.declared.plan.Planning.the-variants as planning
+use Rattle.cuts.specs.declared.plan.Span.{Span}
+use Rattle.cuts.specs.declared.plan.Span.the-variants as span
+use Rattle.cuts.specs.declared.plan.Spanned.{Spanned}
+use Rattle.cuts.specs.declared.plan.Spanned.the-variants as spanned
+use Rattle.cuts.specs.declared.plan.Ranks.{Ranks}
+use Rattle.cuts.specs.declared.plan.Ranks.the-variants as ranks
 use Rattle.exports.specs.declared.answer.Answer.{Answer}
-use Rattle.exports.specs.Codes.{outcomeCode, truthCode, amountCode, perhapsCode, Coded}
+use Rattle.exports.specs.declared.cut.PlanAnswer.{PlanAnswer}
+use Rattle.exports.specs.declared.cut.IdsAnswer.{IdsAnswer}
+use Rattle.exports.specs.declared.cut.RanksAnswer.{RanksAnswer}
+use Rattle.exports.specs.Codes.{outcomeCode, truthCode, amountCode, perhapsCode, planningCode, spannedCode, ranksCode, planIn, spanIn, Coded}
 
 -- ---- reading a code
 
@@ -31,6 +42,15 @@ amountIn a = cond (eqb (a .kind) 2) (amount.Refused (a .value)) (amount.Of (a .v
 
 abbrev pub perhapsIn : Answer → Perhaps
 perhapsIn a = cond (eqb (a .kind) 2) (perhaps.Refused (a .value)) (cond (eqb (a .kind) 1) (perhaps.Of (a .value)) perhaps.Nothing)
+
+abbrev pub planningIn : PlanAnswer → Planning
+planningIn a = cond (eqb (a .kind) 2) (planning.Refused (a .refusal)) (planning.Made (planIn (a .total) (a .slots) (a .partitions)))
+
+abbrev pub spannedIn : IdsAnswer → Spanned
+spannedIn a = cond (eqb (a .kind) 2) (spanned.Refused (a .refusal)) (spanned.Of (spanIn (eqb (a .kind) 1) (a .low) (a .high)))
+
+abbrev pub ranksIn : RanksAnswer → Ranks
+ranksIn a = cond (eqb (a .kind) 2) (ranks.Refused (a .refusal)) (ranks.Of (a .first) (a .count))
 
 -- ---- what was coded is read
 
@@ -52,20 +72,38 @@ perhaps-back (perhaps.Of n) = refl
 perhaps-back perhaps.Nothing = refl
 perhaps-back (perhaps.Refused n) = refl
 
+pub planning-back : (a : Planning) → planningIn (planningCode a) ≡ a
+planning-back (planning.Made p) = refl
+planning-back (planning.Refused c) = refl
+
+pub spanned-back : (a : Spanned) → spannedIn (spannedCode a) ≡ a
+spanned-back (spanned.Of (span.Between lo hi)) = refl
+spanned-back (spanned.Of (span.From lo)) = refl
+spanned-back (spanned.Refused c) = refl
+
+pub ranks-back : (a : Ranks) → ranksIn (ranksCode a) ≡ a
+ranks-back (ranks.Of first n) = refl
+ranks-back (ranks.Refused c) = refl
+
+-- ---- an interval's ends, as the machine passes them on
+
+pub span-read : (b : Bool) (lo hi : ℤ) → SFits w64 lo → SFits w64 hi → (i : Span) → i ≡ spanIn b (toZ w64 (ofZ w64 lo)) (toZ w64 (ofZ w64 hi)) → i ≡ spanIn b lo hi
+span-read b lo hi f g i e = e ∙ ap₂ (spanIn b) (toZ-ofZ f) (toZ-ofZ g)
+
 -- ---- an entry's contract, from that of the call that it wraps
 
-module _ {A : Type 0} (code : A → Answer) where
-  pub coded-by : (says : A → Type 0) (r : Answer) (a : A) → r ≡ code a → says a → Coded code says r
+module _ {A R : Type 0} (code : A → R) where
+  pub coded-by : (says : A → Type 0) (r : R) (a : A) → r ≡ code a → says a → Coded code says r
   coded-by says r a e h = record { answer = a; coded = e; said = h }
 
   -- a call on an id
-  pub coded-at : (says : ℤ → A → Type 0) (z : ℤ) → SFits w64 z → (r : Answer) (a : A) → r ≡ code a → says (toZ w64 (ofZ w64 z)) a → Coded code (says z) r
+  pub coded-at : (says : ℤ → A → Type 0) (z : ℤ) → SFits w64 z → (r : R) (a : A) → r ≡ code a → says (toZ w64 (ofZ w64 z)) a → Coded code (says z) r
   coded-at says z f r a e h = coded-by (says z) r a e (subst (λ (i : ℤ). says i a) (toZ-ofZ f) h)
 
   -- and one that changes memory
-  pub coded-into : (says : ℤ → A → Mem → Type 0) (z : ℤ) → SFits w64 z → (r : Answer) (a : A) (y : Mem) → r ≡ code a → says (toZ w64 (ofZ w64 z)) a y → Coded code (λ (b : A). says z b y) r
+  pub coded-into : (says : ℤ → A → Mem → Type 0) (z : ℤ) → SFits w64 z → (r : R) (a : A) (y : Mem) → r ≡ code a → says (toZ w64 (ofZ w64 z)) a y → Coded code (λ (b : A). says z b y) r
   coded-into says z f r a y e h = coded-at (λ (i : ℤ) (b : A). says i b y) z f r a e h
 
 -- what an entry answers is the wrapped call's answer, read back
-pub coded-back : {A : Type 0} (code : A → Answer) (back : Answer → A) → ((a : A) → back (code a) ≡ a) → (says : A → Type 0) (r : Answer) → Coded code says r → says (back r)
+pub coded-back : {A R : Type 0} (code : A → R) (back : R → A) → ((a : A) → back (code a) ≡ a) → (says : A → Type 0) (r : R) → Coded code says r → says (back r)
 coded-back code back inverse says r h = subst says (sym (ap back (h .coded) ∙ inverse (h .answer))) (h .said)

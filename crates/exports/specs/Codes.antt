@@ -1,8 +1,9 @@
--- Answers as C gets them: a kind and a value. Kind 0 is done or none, 1 a value, 2 a refusal with document 01's number.
+-- Answers as C gets them: a kind and values. Kind 0 is done or none, 1 a value, 2 a refusal with document 01's number.
 use Prim.Native.Nat.{ℕ}
 use mathlib.Core.Path.{_≡_}
-use mathlib.Core.Bool.{Bool, true, false}
-use lib.IntN.{ℤ}
+use mathlib.Core.Bool.{Bool, true, false, cond}
+use mathlib.Core.List.{List}
+use lib.IntN.{ℤ, pos}
 use Rattle.layout.specs.Mem.{Mem}
 use Rattle.layout.specs.SetUp.{did}
 use Rattle.layout.specs.Follows.{Follows}
@@ -16,7 +17,21 @@ use Rattle.layout.specs.declared.answer.Perhaps.{Perhaps}
 use Rattle.layout.specs.declared.answer.Perhaps.the-variants as perhaps
 use Rattle.calls.specs.Prepare.{prepareBy}
 use Rattle.calls.specs.Promise.{Prepares}
+use Rattle.cuts.specs.Plan.{cut, planBy}
+use Rattle.cuts.specs.Promise.{Plans}
+use Rattle.cuts.specs.declared.plan.Plan.{Plan}
+use Rattle.cuts.specs.declared.plan.Planning.{Planning}
+use Rattle.cuts.specs.declared.plan.Planning.the-variants as planning
+use Rattle.cuts.specs.declared.plan.Span.{Span}
+use Rattle.cuts.specs.declared.plan.Span.the-variants as span
+use Rattle.cuts.specs.declared.plan.Spanned.{Spanned}
+use Rattle.cuts.specs.declared.plan.Spanned.the-variants as spanned
+use Rattle.cuts.specs.declared.plan.Ranks.{Ranks}
+use Rattle.cuts.specs.declared.plan.Ranks.the-variants as ranks
 use Rattle.exports.specs.declared.answer.Answer.{Answer}
+use Rattle.exports.specs.declared.cut.PlanAnswer.{PlanAnswer}
+use Rattle.exports.specs.declared.cut.IdsAnswer.{IdsAnswer}
+use Rattle.exports.specs.declared.cut.RanksAnswer.{RanksAnswer}
 
 abbrev pub code : ℕ → ℕ → Answer
 code k v = record { kind = k; value = v }
@@ -42,8 +57,46 @@ perhapsCode (perhaps.Of n) = code 1 n
 perhapsCode perhaps.Nothing = code 0 0
 perhapsCode (perhaps.Refused n) = code 2 n
 
+-- ---- a plan's answers, with a place for the refusal number; what isn't said is 0
+
+abbrev pub planCode : ℕ → ℕ → ℕ → ℕ → ℕ → PlanAnswer
+planCode k c t S n = record { kind = k; refusal = c; total = t; slots = S; partitions = n }
+
+abbrev pub planningCode : Planning → PlanAnswer
+planningCode (planning.Made p) = planCode 1 0 (p .total) (p .slots) (p .partitions)
+planningCode (planning.Refused c) = planCode 2 c 0 0 0
+
+abbrev pub idsCode : ℕ → ℕ → ℤ → ℤ → IdsAnswer
+idsCode k c lo hi = record { kind = k; refusal = c; low = lo; high = hi }
+
+-- kind 0: no high end
+abbrev pub spanCode : Span → IdsAnswer
+spanCode (span.Between lo hi) = idsCode 1 0 lo hi
+spanCode (span.From lo) = idsCode 0 0 lo (pos 0)
+
+abbrev pub spannedCode : Spanned → IdsAnswer
+spannedCode (spanned.Of i) = spanCode i
+spannedCode (spanned.Refused c) = idsCode 2 c (pos 0) (pos 0)
+
+abbrev pub rankCode : ℕ → ℕ → ℕ → ℕ → RanksAnswer
+rankCode k c first n = record { kind = k; refusal = c; first = first; count = n }
+
+abbrev pub ranksCode : Ranks → RanksAnswer
+ranksCode (ranks.Of first n) = rankCode 1 0 first n
+ranksCode (ranks.Refused c) = rankCode 2 c 0 0
+
+-- ---- a plan and an interval, as C gives them
+
+abbrev pub planIn : ℕ → ℕ → ℕ → Plan
+planIn t S n = record { total = t; slots = S; partitions = n }
+
+abbrev pub spanIn : Bool → ℤ → ℤ → Span
+spanIn hasHigh lo hi = cond hasHigh (span.Between lo hi) (span.From lo)
+
+-- ---- contracts
+
 -- r is the code of an answer that the wrapped call's contract allows
-pub record Coded {A : Type 0} (code : A → Answer) (says : A → Type 0) (r : Answer) : Type 0 where
+pub record Coded {A R : Type 0} (code : A → R) (says : A → Type 0) (r : R) : Type 0 where
   pub answer : A
   pub coded : r ≡ code answer
   pub said : says answer
@@ -51,3 +104,7 @@ pub record Coded {A : Type 0} (code : A → Answer) (says : A → Type 0) (r : A
 -- `pre_allocate`, from memory x to memory y
 abbrev pub PreAllocates : Mem → ℤ → Outcome → Mem → Type 0
 PreAllocates x z a y = (did a y ≡ prepareBy x z) × (Follows x → Prepares x z a y)
+
+-- `plan` for S, from boundaries bs to boundaries cs
+abbrev pub PlansBy : Mem → ℕ → List ℤ → Planning → List ℤ → Type 0
+PlansBy x S bs a cs = (cut a cs ≡ planBy x S bs) × (Follows x → Plans x S bs a cs)

@@ -1,0 +1,88 @@
+// The plan: boundaries of a ranked set, its partitions, and what lies in them. A plan and an interval come as their numbers.
+ghost use mathlib.Core.Path.{_≡_};
+ghost use Rattle.sums.specs.Cuts.{inside};
+ghost use Rattle.layout.specs.Mem.{memOf};
+ghost use Rattle.cuts.specs.Spans.{intervalOf, idsBy, ranksBy, meets};
+ghost use Rattle.cuts.specs.declared.plan.Planning.{Planning};
+ghost use Rattle.exports.specs.Codes.{Coded, PlansBy, planningCode, spannedCode, ranksCode, planIn, spanIn};
+use crate::cut;
+use crate::cut::IdsAnswer;
+use crate::cut::PlanAnswer;
+use crate::cut::RanksAnswer;
+use cuts::interval;
+use cuts::plan::Plan;
+use cuts::plan::Span;
+use cuts::planning;
+
+// Cuts a ranked set into partitions of at most s members: boundaries to the lent slice.
+#[no_mangle]
+pub extern "C" fn bp_plan(
+    pages: &[u64],
+    rows: &[u32],
+    blocks: &[u32],
+    table: &[u64],
+    s: u64,
+    bounds: &mut [i64],
+) -> PlanAnswer
+    ensures { λ r. ⌜ Coded planningCode (λ (a : Planning). PlansBy (memOf (pages .entry) (rows .entry) (blocks .entry) (table .entry)) s (now (bounds .entry)) a (now (bounds .exit))) r ⌝ }
+{
+    cut::of_planning(planning::plan(pages, rows, blocks, table, s, bounds))
+}
+
+// Partition k's interval of ids.
+#[no_mangle]
+pub extern "C" fn bp_ids(
+    total: u64,
+    slots: u64,
+    partitions: u64,
+    bounds: &[i64],
+    k: u64,
+) -> IdsAnswer
+    ensures { λ r. ⌜ r ≡ spannedCode (idsBy (planIn total slots partitions) (now (bounds .entry)) k) ⌝ }
+{
+    let p = Plan {
+        total,
+        slots,
+        partitions,
+    };
+    cut::of_spanned(interval::ids(p, bounds, k))
+}
+
+// Partition k's first rank and how many members it holds.
+#[no_mangle]
+pub extern "C" fn bp_ranks(total: u64, slots: u64, partitions: u64, k: u64) -> RanksAnswer
+    ensures { λ r. ⌜ r ≡ ranksCode (ranksBy (planIn total slots partitions) k) ⌝ }
+{
+    let p = Plan {
+        total,
+        slots,
+        partitions,
+    };
+    cut::of_ranks(interval::ranks(p, k))
+}
+
+// An interval from its numbers; without a high end the last isn't looked at.
+fn span_of(has_high: bool, low: i64, high: i64) -> Span
+    ensures { λ i. ⌜ i ≡ spanIn «has_high» low high ⌝ }
+{
+    if has_high {
+        return Span::Between(low, high);
+    }
+    Span::From(low)
+}
+
+// Whether an id lies in an interval.
+#[no_mangle]
+pub extern "C" fn bp_in_partition(id: i64, has_high: bool, low: i64, high: i64) -> bool
+    ensures { λ b. ⌜ b ≡ inside id (intervalOf (spanIn «has_high» low high)) ⌝ }
+{
+    interval::in_partition(id, span_of(has_high, low, high))
+}
+
+// Whether a range of ids, both ends included, meets an interval.
+#[no_mangle]
+pub extern "C" fn bp_range_meets(min: i64, max: i64, has_high: bool, low: i64, high: i64) -> bool
+    ensures { λ b. ⌜ b ≡ meets min max (spanIn «has_high» low high) ⌝ }
+{
+    interval::range_meets(min, max, span_of(has_high, low, high))
+}
