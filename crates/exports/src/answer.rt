@@ -28,10 +28,10 @@ pub fn of_truth(a: Truth) -> Answer
     ensures { λ r. ⌜ r ≡ truthCode a ⌝ }
 {
     match a {
-        Truth::Is(b) => Answer {
-            kind: 1,
-            value: b as u64,
-        },
+        Truth::Is(b) => {
+            let value = b as u64;
+            Answer { kind: 1, value }
+        }
         Truth::Refused(n) => Answer { kind: 2, value: n },
     }
 }

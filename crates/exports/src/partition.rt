@@ -29,6 +29,17 @@ pub extern "C" fn bp_plan(
     cut::of_planning(planning::plan(pages, rows, blocks, table, s, bounds))
 }
 
+// A plan from its numbers.
+fn plan_of(total: u64, slots: u64, partitions: u64) -> Plan
+    ensures { λ p. ⌜ p ≡ planIn total slots partitions ⌝ }
+{
+    Plan {
+        total,
+        slots,
+        partitions,
+    }
+}
+
 // Partition k's interval of ids.
 #[no_mangle]
 pub extern "C" fn bp_ids(
@@ -40,12 +51,7 @@ pub extern "C" fn bp_ids(
 ) -> IdsAnswer
     ensures { λ r. ⌜ r ≡ spannedCode (idsBy (planIn total slots partitions) (now (bounds .entry)) k) ⌝ }
 {
-    let p = Plan {
-        total,
-        slots,
-        partitions,
-    };
-    cut::of_spanned(interval::ids(p, bounds, k))
+    cut::of_spanned(interval::ids(plan_of(total, slots, partitions), bounds, k))
 }
 
 // Partition k's first rank and how many members it holds.
@@ -53,12 +59,7 @@ pub extern "C" fn bp_ids(
 pub extern "C" fn bp_ranks(total: u64, slots: u64, partitions: u64, k: u64) -> RanksAnswer
     ensures { λ r. ⌜ r ≡ ranksCode (ranksBy (planIn total slots partitions) k) ⌝ }
 {
-    let p = Plan {
-        total,
-        slots,
-        partitions,
-    };
-    cut::of_ranks(interval::ranks(p, k))
+    cut::of_ranks(interval::ranks(plan_of(total, slots, partitions), k))
 }
 
 // An interval from its numbers; without a high end the last isn't looked at.
