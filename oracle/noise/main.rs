@@ -1,0 +1,285 @@
+//! Calls on memory that no call made: made sets with words poked into them, and pure noise. The check is compared with a second one, every call
+//! answers what document 01 lets it, a refusal and a reading call leave all as it was, and where memory follows the layout answer and memory after
+//! are the plain set's. Arguments: how many times the usual number of rounds, the seed, and for one round alone its sizes' place and its number.
+mod call;
+mod choose;
+#[path = "../library.rs"]
+mod library;
+mod other;
+mod plain;
+#[path = "../compare/planning.rs"]
+mod planning;
+mod poke;
+mod records;
+mod second;
+
+use call::{Call, Record};
+use library::{Answer, DONE, Memory, Sizes, refused};
+use plain::Plain;
+use poke::Random;
+use std::fmt::Arguments;
+
+/// What memory stands for, or the rules that it breaks.
+type Judged = Result<Plain, Vec<u8>>;
+
+/// s m D V R P, rounds, most calls that make a set. Document 01's tiny sizes, some around them, the program's.
+const SIZES: [([u64; 6], u64, u64); 13] = [
+    ([9, 4, 2, 1, 2, 1], 6000, 40),
+    ([9, 4, 2, 3, 5, 4], 6000, 60),
+    ([9, 1, 1, 2, 3, 3], 3000, 40),
+    ([9, 1, 0, 5, 5, 5], 3000, 40),
+    ([9, 2, 5, 0, 5, 1], 2000, 40),
+    ([9, 4, 3, 5, 0, 5], 2000, 20),
+    ([9, 3, 0, 0, 0, 0], 500, 5),
+    ([10, 5, 1, 4, 5, 0], 2000, 60),
+    ([11, 4, 2, 5, 5, 5], 3000, 80),
+    ([12, 3, 1, 2, 2, 3], 1000, 80),
+    ([9, 1024, 1, 1, 2, 1], 100, 1800),
+    ([25, 1, 1, 3, 3, 0], 1000, 20),
+    ([12, 64, 16, 16, 32, 16], 100, 900),
+];
+
+/// Pokes, and pieces of noise, in a round.
+const POKES: u64 = 12;
+
+/// Where memory comes from.
+#[derive(Clone, Copy, Default)]
+enum From {
+    #[default]
+    Made,
+    Poked,
+    Noise,
+}
+
+#[derive(Default)]
+struct Run {
+    place: String,
+    from: From,
+    rounds: u64,
+    calls: u64,
+    /// Refusals by number, calls that changed memory, the check's yes and no by where memory comes from.
+    refusals: [u64; 13],
+    changes: u64,
+    yes: [u64; 3],
+    no: [u64; 3],
+    /// How often each rule alone was broken.
+    alone: [u64; 17],
+}
+
+impl Run {
+    fn ensure(&self, fine: bool, what: Arguments, call: Option<Call>, before: &Memory) {
+        if !fine {
+            let (lent, broken, table) = (before.lent(), second::read(before).err(), before.table.iter().take(90).collect::<Vec<_>>());
+            panic!("{}: {what}; call {call:?}, lent {lent:?}, rules broken {broken:?}, table from {table:?}", self.place);
+        }
+    }
+
+    /// The second check's word on memory, which has to be the check's.
+    fn judge(&mut self, x: &mut Memory) -> Judged {
+        let judged = second::read(x);
+        let answer = x.bp_check();
+        self.ensure(answer == judged.is_ok(), format_args!("the checks differ"), Some(Call::Check), x);
+        match &judged {
+            Ok(_) => self.yes[self.from as usize] += 1,
+            Err(broken) => {
+                self.no[self.from as usize] += 1;
+                if let &[rule] = &broken[..] {
+                    self.alone[usize::from(rule)] += 1;
+                }
+            }
+        }
+        judged
+    }
+
+    /// The call on `work`, which is as `before` and is so again afterwards, unless the call changed it and is kept.
+    fn one(&mut self, g: &mut Random, call: Call, before: &Memory, judged: &mut Judged, work: &mut Memory) -> Answer {
+        let a = call.make(work);
+        let same = work == before;
+        self.ensure(call.allows(a), format_args!("{a:?} is no answer of this call"), Some(call), before);
+        self.calls += 1;
+        self.changes += u64::from(!same);
+        if a.kind == 2 {
+            self.refusals[a.value as usize] += 1;
+        }
+        self.ensure(same || (call.writes() && a.kind != 2), format_args!("memory changed"), Some(call), before);
+        if g.one_in(8) {
+            let mut again = before.clone();
+            self.ensure(call.make(&mut again) == a && again == *work, format_args!("not the same a second time"), Some(call), before);
+        }
+        match (call, judged) {
+            (_, Ok(set)) => self.followed(call, a, before, set, work),
+            (Call::SetUp(z), _) => self.set_up(z, a, before, work),
+            (_, Err(broken)) => self.elsewhere(call, a, before, broken, work),
+        }
+        a
+    }
+
+    /// On memory that follows the layout: the answer and the set after it.
+    fn followed(&self, call: Call, a: Answer, before: &Memory, set: &mut Plain, work: &mut Memory) {
+        let mut after = if call.writes() { Some(set.clone()) } else { None };
+        let wanted = after.as_mut().unwrap_or(set).call(call, before.lent());
+        self.ensure(a == wanted, format_args!("{a:?} and not {wanted:?}"), Some(call), before);
+        let Some(after) = after else { return };
+        let sizes = after.sizes;
+        let fine = if work == before { after == *set } else { work.bp_check() && second::read(work) == Ok(after) };
+        self.ensure(fine, format_args!("memory after the call is not the plain set's"), Some(call), before);
+        self.ensure(past_stays(before, work, sizes.needs()), format_args!("an element past the sizes changed"), Some(call), before);
+    }
+
+    /// Set-up of memory that follows nothing.
+    fn set_up(&self, z: Sizes, a: Answer, before: &Memory, work: &mut Memory) {
+        let wanted = plain::set_up(z, before.lent()).map_or_else(refused, |()| DONE);
+        self.ensure(a == wanted, format_args!("{a:?} and not {wanted:?}"), Some(Call::SetUp(z)), before);
+        if a == DONE {
+            let fine = work.bp_check() && second::read(work) == Ok(Plain::empty(z)) && past_stays(before, work, z.needs());
+            self.ensure(fine, format_args!("not set up"), Some(Call::SetUp(z)), before);
+        }
+    }
+
+    /// Any other call on memory that does not follow the layout. Where sizes and lengths are fine, the elements past them stay here too, but for
+    /// inserts where rule 5 or 9 is broken: these take a slot that a word names, whatever R and P are.
+    fn elsewhere(&self, call: Call, a: Answer, before: &Memory, broken: &[u8], work: &Memory) {
+        self.ensure(other::fits(before, call, a), format_args!("{a:?} is not in the exception list"), Some(call), before);
+        let t = &before.table;
+        let insert = matches!(call, Call::Set(_) | Call::SetIfNew(_) | Call::SetPrepared(_));
+        let placed = !matches!(broken, [1] | [2]) && !(insert && (broken.contains(&5) || broken.contains(&9)));
+        let needs = if placed { Sizes { s: t[0], m: t[1], d: t[2], v: t[3], r: t[4], p: t[5] }.needs() } else { before.lent() };
+        self.ensure(past_stays(before, work, needs), format_args!("an element past the sizes changed"), Some(call), before);
+    }
+
+    /// Planning writes boundaries alone, and those of the plan only.
+    fn plan(&mut self, g: &mut Random, before: &Memory, judged: &Judged, work: &mut Memory) {
+        let (room, slots) = (g.below(9) as usize, records::slots(g, before.table.get(8).copied().unwrap_or(0)));
+        let marks: Vec<i64> = (0..room + 2).map(|_| g.next() as i64).collect();
+        let mut bounds = marks.clone();
+        let a = work.plan(slots, &mut bounds[..room]);
+        let record = Record { total: a.total, slots: a.slots, partitions: a.partitions };
+        let told = if a.kind == 1 { Ok(record) } else { Err(a.refusal) };
+        let written = told.map_or(0, |r| r.partitions as usize - 1);
+        let known = matches!((a.kind, a.refusal), (1, 0)) || matches!((a.refusal, a.total, a.slots, a.partitions), (3 | 5 | 11, 0, 0, 0));
+        let fine = known && a.kind <= 2 && work == before && bounds[written..] == marks[written..];
+        self.ensure(fine, format_args!("plan {slots} {room} answers {told:?}, or writes"), None, before);
+        self.calls += 1;
+        let fine = match judged {
+            Ok(set) => set.plan(slots, room) == told.map(|r| (r, bounds[..written].to_vec())),
+            Err(_) => other::plan_fits(before, slots, room, told),
+        };
+        self.ensure(fine, format_args!("plan {slots} {room} answers {told:?}"), None, before);
+        if told.is_err() {
+            self.refusals[a.refusal as usize] += 1;
+        }
+    }
+
+    /// Plan records that a caller made up.
+    fn partitions(&mut self, g: &mut Random) {
+        for _ in 0..8 {
+            let refusal = records::partition(g).unwrap_or_else(|difference| panic!("{}: {difference}", self.place));
+            self.calls += 2;
+            self.refusals[refusal as usize] += 1;
+        }
+    }
+
+    /// Every call on this memory. Now and then what a call made of it is kept for the calls after it.
+    fn every_call(&mut self, g: &mut Random, mut before: Memory, z: Sizes) {
+        let mut judged = self.judge(&mut before);
+        let mut work = before.clone();
+        self.plan(g, &before, &judged, &mut work);
+        for call in choose::every_call(g, &before, z) {
+            self.one(g, call, &before, &mut judged, &mut work);
+            if work != before {
+                if g.one_in(6) {
+                    before.clone_from(&work);
+                    judged = self.judge(&mut before);
+                } else {
+                    work.clone_from(&before);
+                }
+            }
+        }
+    }
+
+    /// A set made by random calls, from none to so many that some are refused.
+    fn made(&mut self, g: &mut Random, z: Sizes, most: u64) -> Memory {
+        let mut before = Memory::new(z);
+        before.kept = g.below(3) as usize;
+        let mut judged = self.judge(&mut before);
+        let count = g.below(most) / g.pick(&[1, 1, 2, 9]);
+        let chunks = 1 + g.below(z.d + z.v + 2);
+        for _ in 0..count {
+            let near = 1 << (2 + g.below(z.s - 1));
+            let id = (g.below(chunks) << z.s | g.below(near)) as i64;
+            let call = g.pick(&[Call::Set, Call::SetIfNew, Call::SetIfNew, Call::SetIfNew, Call::SetPrepared, Call::PreAllocate]);
+            let call = if matches!(call(0), Call::PreAllocate(_)) && g.below(4) > 0 { Call::SetIfNew(id) } else { call(id) };
+            self.grow(g, call, &mut before, &mut judged);
+        }
+        if g.one_in(2) {
+            self.grow(g, Call::IntoRanked, &mut before, &mut judged);
+        }
+        before
+    }
+
+    fn grow(&mut self, g: &mut Random, call: Call, x: &mut Memory, judged: &mut Judged) {
+        let before = x.clone();
+        let a = self.one(g, call, &before, judged, x);
+        if a.kind != 2 {
+            *judged = second::read(x);
+        }
+    }
+
+    fn round(&mut self, g: &mut Random, z: Sizes, most: u64) {
+        self.rounds += 1;
+        self.partitions(g);
+        self.from = From::Made;
+        let made = self.made(g, z, most);
+        self.every_call(g, made.clone(), z);
+        for _ in 0..POKES {
+            self.from = From::Poked;
+            let mut x = made.clone();
+            poke::poke(g, &mut x, z);
+            self.every_call(g, x, z);
+            self.from = From::Noise;
+            let noise = poke::noise(g);
+            self.every_call(g, noise, z);
+        }
+    }
+
+    fn tell(&self) {
+        let ([made, poked, noise], [_, poked_no, noise_no]) = (self.yes, self.no);
+        println!(
+            "noise: {} rounds, {} calls, {} changes, refusals 1 to 12 but 10 {:?}; both checks: {made} made sets yes, poked {poked} yes {poked_no} no, \
+             noise {noise} yes {noise_no} no; rules 1 to 16 broken alone {:?}",
+            self.rounds, self.calls, self.changes, [1, 2, 3, 4, 5, 6, 7, 8, 9, 11, 12].map(|no: usize| self.refusals[no]), &self.alone[1..]
+        );
+    }
+
+    /// The ends of the table of sizes, which no small memory shows.
+    fn limits(&mut self, seed: u64) {
+        self.from = From::Poked;
+        for (z, x) in poke::at_limits() {
+            self.place = format!("seed {seed}, limits {z:?}");
+            self.every_call(&mut Random::new(&[seed]), x, z);
+        }
+    }
+}
+
+/// Whether each slice is as it was from these lengths on, with what is not lent.
+fn past_stays(a: &Memory, b: &Memory, [pages, rows, blocks, table]: [usize; 4]) -> bool {
+    a.pages[pages..] == b.pages[pages..] && a.rows[rows..] == b.rows[rows..] && a.blocks[blocks..] == b.blocks[blocks..] && a.table[table..] == b.table[table..]
+}
+
+fn main() {
+    let a: Vec<u64> = std::env::args().skip(1).map(|w| w.parse().expect("a number")).collect();
+    let (times, seed) = (a.first().copied().unwrap_or(1), a.get(1).copied().unwrap_or(1));
+    let mut run = Run::default();
+    run.limits(seed);
+    for (k, ([s, m, d, v, r, p], rounds, most)) in (0..).zip(SIZES) {
+        let z = Sizes { s, m, d, v, r, p };
+        for n in 0..rounds * times {
+            if a.len() < 4 || (a[2], a[3]) == (k, n) {
+                run.place = format!("seed {seed}, sizes {k} {z:?}, round {n}");
+                run.round(&mut Random::new(&[seed, k, n]), z, most);
+            }
+        }
+    }
+    run.tell();
+    assert!(a.len() > 2 || run.alone[1..].iter().all(|&n| n > 0), "a rule was never broken alone");
+}
