@@ -13,7 +13,7 @@ use Rattle.sums.specs.Rules.{allTo, Decides}
 use Rattle.sums.proofs.Rules.{all-of, and-of, unless-of, if-of, same-of, leb-of, ltb-of, eqb-of}
 use Rattle.dense.specs.Bits.{bitsTo}
 use Rattle.layout.specs.Mem.{Mem}
-use Rattle.layout.specs.Sizes.{top, wide, blocksOf, overAt, rowOwnersAt, pageOwnersAt, head, overCount, totalAt}
+use Rattle.layout.specs.Sizes.{top, wide, blocksOf, overAt, head, overCount, totalAt}
 use Rattle.layout.specs.Places.{isSparse, isDense, rowPart, pagePart, rowOwner, pageOwner}
 use Rattle.layout.specs.Entries.{entries, prefixAt, placeAt}
 use Rattle.layout.specs.Follows.{AllZero, Listed, RowListed, membersAt, kept, Laid, Follows}
@@ -22,7 +22,7 @@ use Rattle.layout.proofs.Tests.{always, walked-of}
 use Rattle.layout.specs.declared.head.Header.{Header}
 use Rattle.layout.specs.declared.place.Place.{Place}
 use Rattle.layout.specs.declared.place.Place.the-variants.{Absent, Sparse, Dense}
-use Rattle.fullcheck.specs.Check.{Sound, zeroAt, zeros, overSet, offsetIs, listIs, listAt, rowIs, freeRow, freePage, owned, kindAt, countsAre, sizeAt, rankedAt, prefixIs, totalIs, blockIs, pageBlocks, tableRest, rowsAre, ranksAre, restIs, checked}
+use Rattle.fullcheck.specs.Check.{Sound, zeroAt, zeros, overSet, offsetIs, listIs, listAt, rowIs, freeRow, freePage, kindAt, countsAre, sizeAt, rankedAt, prefixIs, totalIs, blockIs, pageBlocks, tableRest, rowsAre, ranksAre, restIs, checked}
 
 -- no to P is yes to its denial
 not-sound : (a : Bool) {P : Type 0} → Decides a P → not a ≡ true → P → ⊥
@@ -85,11 +85,11 @@ module _ (h : Header) (x : Mem) where
   counts-of : Decides (countsAre h (x .table))
       ((count (λ (r : ℕ). not (eqb (rowOwner h (x .table) r) 0)) (h .r) ≡ count (λ (e : ℕ). isSparse (placeAt h (x .table) e)) (entries h (x .table)))
       × (count (λ (p : ℕ). not (eqb (pageOwner h (x .table) p) 0)) (h .p) ≡ count (λ (e : ℕ). isDense (placeAt h (x .table) e)) (entries h (x .table))))
-  unfolding countsAre owned kindAt
+  unfolding countsAre kindAt
   counts-of =
       and-of
-      (eqb-of (count (owned (x .table) (rowOwnersAt h)) (h .r)) (count (kindAt h (x .table) false) (entries h (x .table))))
-      (eqb-of (count (owned (x .table) (pageOwnersAt h)) (h .p)) (count (kindAt h (x .table) true) (entries h (x .table))))
+      (eqb-of (count (λ (r : ℕ). not (eqb (rowOwner h (x .table) r) 0)) (h .r)) (count (kindAt h (x .table) false) (entries h (x .table))))
+      (eqb-of (count (λ (p : ℕ). not (eqb (pageOwner h (x .table) p) 0)) (h .p)) (count (kindAt h (x .table) true) (entries h (x .table))))
 
   ranks-of : Decides (ranksAre h (x .pages) (x .table))
       (((e : ℕ) → e < entries h (x .table) → prefixAt h (x .table) e ≡ kept x (sumTo (membersAt h x) e))

@@ -1,4 +1,4 @@
--- What each way through a test of one place answers, and what a turn of a counting loop adds. Assumes nothing.
+-- What each way through a test of one place answers. Assumes nothing.
 use mathlib.Core.Path.{_≡_, refl, sym, _∙_, ap, ap₂, subst}
 use mathlib.Core.List.{List}
 use mathlib.Core.Bool.{Bool, true, false, not, _&&_, _||_}
@@ -7,19 +7,17 @@ use native.Mathlib.Nat.{mul-le-mul-right, suc-mul}
 use native.Mathlib.Omega.{arith}
 use lib.ListN.{length, getD, take, drop, length-take, length-drop}
 use lib.Dec.{leb, ltb, eqb}
-use mir.Val.{boolByte}
 use borrow.Author.Tests.{eq-eqb, ne-eqb}
 use Rattle.sums.specs.Rules.{allTo}
-use Rattle.sums.specs.Ids.{Ids, count}
-use Rattle.sums.proofs.Counts.{count-next}
-use Rattle.layout.specs.Sizes.{top, rowOwnersAt, pageOwnersAt, overCount, overAt}
-use Rattle.layout.specs.Places.{isSparse, isDense, rowPart}
+use Rattle.sums.specs.Ids.{count}
+use Rattle.layout.specs.Sizes.{top, overCount, overAt}
+use Rattle.layout.specs.Places.{isSparse, isDense, rowPart, rowOwner, pageOwner}
 use Rattle.layout.specs.Entries.{entries, chunkAt, placeAt}
 use Rattle.layout.specs.Follows.{Owned}
 use Rattle.layout.specs.declared.head.Header.{Header}
 use Rattle.layout.specs.declared.place.Place.{Place}
 use Rattle.layout.specs.declared.place.Place.the-variants.{Absent, Sparse, Dense}
-use Rattle.fullcheck.specs.Check.{Sound, zeros, offsetIs, listIs, listAt, rowIs, owned, isKind, kindAt, countsAre, freeRow, rowsAre, overSet, tableRest}
+use Rattle.fullcheck.specs.Check.{Sound, zeros, offsetIs, listIs, listAt, rowIs, isKind, kindAt, countsAre, freeRow, rowsAre, overSet, tableRest}
 
 -- ---- parts of a pool
 
@@ -88,16 +86,13 @@ module _ {q : Place} where
   kind-dense true e = ap isDense (sym e)
   kind-dense false e = ap isSparse (sym e)
 
-pub count-more : (P : Ids) (i a : ℕ) (b : Bool) → a ≡ count P i → b ≡ P i → a + boolByte b ≡ count P (i + 1)
-count-more P i a b p q = ap₂ (λ (x : ℕ) (y : Bool). x + boolByte y) p q ∙ sym (count-next P i)
-
-pub counts-pass : (h : Header) (t : List ℕ) (a b d e : ℕ) → a ≡ count (owned t (rowOwnersAt h)) (h .r) → b ≡ count (kindAt h t false) (entries h t) → d ≡ count (owned t (pageOwnersAt h)) (h .p) → e ≡ count (kindAt h t true) (entries h t) → (eqb a b && eqb d e) ≡ countsAre h t
+pub counts-pass : (h : Header) (t : List ℕ) (a b d e : ℕ) → a ≡ count (λ (r : ℕ). not (eqb (rowOwner h t r) 0)) (h .r) → b ≡ count (kindAt h t false) (entries h t) → d ≡ count (λ (p : ℕ). not (eqb (pageOwner h t p) 0)) (h .p) → e ≡ count (kindAt h t true) (entries h t) → (eqb a b && eqb d e) ≡ countsAre h t
 unfolding countsAre
 counts-pass h t a b d e p q r s = rw (p, q, r, s)
 
 -- ---- the table
 
--- n overflow entries were read to be in use
-pub table-passes : (h : Header) (t : List ℕ) (n : ℕ) (a b d e : Bool) → n ≡ overCount t → a ≡ zeros t 9 7 → b ≡ allTo (overSet t (16 + 2 * h .d)) (overCount t) → d ≡ zeros t (overAt h n) (3 * (h .v - n)) → e ≡ countsAre h t → (a && b && d && e) ≡ tableRest h t
+-- n overflow entries were read to be in use, and i and k say where the spare ones lie
+pub table-passes : (h : Header) (t : List ℕ) (n i k : ℕ) (a b d e : Bool) → n ≡ overCount t → i ≡ overAt h n → k ≡ 3 * (h .v - n) → a ≡ zeros t 9 7 → b ≡ allTo (overSet t (16 + 2 * h .d)) (overCount t) → d ≡ zeros t i k → e ≡ countsAre h t → (a && b && d && e) ≡ tableRest h t
 unfolding tableRest
-table-passes h t n a b d e m p q r s = ap₂ _&&_ (ap₂ _&&_ (ap₂ _&&_ p q) (r ∙ ap (λ (k : ℕ). zeros t (overAt h k) (3 * (h .v - k))) m)) s
+table-passes h t n i k a b d e m f g p q r s = ap₂ _&&_ (ap₂ _&&_ (ap₂ _&&_ p q) (r ∙ (ap₂ (zeros t) f g ∙ ap (λ (j : ℕ). zeros t (overAt h j) (3 * (h .v - j))) m))) s

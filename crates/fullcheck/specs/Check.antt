@@ -9,7 +9,7 @@ use Rattle.sums.specs.Ids.{count}
 use Rattle.sums.specs.Rules.{allTo}
 use Rattle.dense.specs.Bits.{bitsTo}
 use Rattle.layout.specs.Mem.{Mem}
-use Rattle.layout.specs.Sizes.{InRange, top, wide, blocksOf, overAt, rowOwnersAt, pageOwnersAt, tableSize, head, modeAt, overCount, totalAt}
+use Rattle.layout.specs.Sizes.{InRange, top, wide, blocksOf, overAt, tableSize, head, modeAt, overCount, totalAt}
 use Rattle.layout.specs.Places.{isSparse, isDense, rowPart, pagePart, rowOwner, pageOwner}
 use Rattle.layout.specs.Entries.{entries, chunkAt, prefixAt, placeAt}
 use Rattle.layout.specs.Follows.{Owned, sizeOf}
@@ -58,10 +58,7 @@ freeRow h rows t r = not (eqb (rowOwner h t r) 0) || zeros rows (r * h .m) (h .m
 unfoldable pub freePage : Header → List ℕ → List ℕ → ℕ → Bool
 freePage h pages t p = not (eqb (pageOwner h t p) 0) || zeros pages (p * wide h) (wide h)
 
--- 13: owners from a that are not 0; entries that are sparse, or dense
-unfoldable pub owned : List ℕ → ℕ → ℕ → Bool
-owned t a i = not (eqb (getD t (a + i) 0) 0)
-
+-- 13: owners that are not 0; entries that are sparse, or dense
 abbrev pub isKind : Bool → Place → Bool
 isKind true q = isDense q
 isKind false q = isSparse q
@@ -71,8 +68,8 @@ kindAt h t dense e = isKind dense (placeAt h t e)
 
 unfoldable pub countsAre : Header → List ℕ → Bool
 countsAre h t =
-    eqb (count (owned t (rowOwnersAt h)) (h .r)) (count (kindAt h t false) (entries h t))
-    && eqb (count (owned t (pageOwnersAt h)) (h .p)) (count (kindAt h t true) (entries h t))
+    eqb (count (λ (r : ℕ). not (eqb (rowOwner h t r) 0)) (h .r)) (count (kindAt h t false) (entries h t))
+    && eqb (count (λ (p : ℕ). not (eqb (pageOwner h t p) 0)) (h .p)) (count (kindAt h t true) (entries h t))
 
 -- members of entry e
 unfoldable pub sizeAt : Header → List ℕ → List ℕ → ℕ → ℕ

@@ -6,16 +6,14 @@ use Prim.Native.Nat.{ℕ, zero, suc, _+_, _-_, _*_, _^_, _≤_, _<_}
 use native.Mathlib.Omega.{arith}
 use lib.Dec.{leb, ltb, eqb}
 use lib.ListN.{length, getD, take, drop}
-use borrow.Author.Tests.{leb-true, lt-ltb, eq-eqb, ne-eqb, not-true, not-false}
+use borrow.Author.Tests.{leb-true, lt-ltb, eq-eqb, ne-eqb}
 use Rattle.sums.proofs.Rules.{both}
 use Rattle.dense.specs.Bits.{bitsTo, anyIn}
 use Rattle.dense.proofs.Counts.{bits-zero, bits-le}
 use Rattle.numbers.proofs.Powers.{powers}
 use Rattle.layout.specs.Mem.{Mem}
-use Rattle.layout.specs.Sizes.{headerAt, overCount}
-use Rattle.layout.specs.Entries.{wordAt}
-use Rattle.layout.specs.Short.{spotOf}
-use Rattle.layout.proofs.Entries.{word-below, word-past}
+use Rattle.layout.specs.Sizes.{overCount}
+use Rattle.layout.specs.Short.{entriesIn, spotOf}
 use Rattle.layout.specs.declared.find.Spot.{Spot}
 use Rattle.layout.specs.declared.find.Spot.the-variants.{Nowhere, Row, Page, Bad}
 use Rattle.calls.specs.Reading.{shiftOk, spotBy}
@@ -50,39 +48,16 @@ pub number-small : (t : List ℕ) (d n : ℕ) → Run t → d ≡ getD t 2 0 →
 number-small t d n r e f = let l = r .direct in let h = r .over in (omega (arith, e), omega (arith, f))
 
 -- the test, on what was read
-module _ (t : List ℕ) (s d n : ℕ) (es : s ≡ getD t 0 0) (ed : d ≡ getD t 2 0) (en : n ≡ overCount t) where
-  same : (leb 9 s && leb s 25 && leb d 262144 && leb n 65536) ≡ (shiftOk t && leb (getD t 2 0) 262144 && leb (overCount t) 65536)
-  same =
-      ap (λ (k : ℕ). leb 9 k && leb k 25 && leb d 262144 && leb n 65536) es
-      ∙ ap₂ (λ (i j : ℕ). shiftOk t && leb i 262144 && leb j 65536) ed en
+and-four : (a x y z : Bool) → (a && (x && y && z)) ≡ (a && x && y && z)
+and-four true x y z = refl
+and-four false x y z = refl
 
-  rest : Bool → Bool
-  rest b = b && leb (16 + 2 * getD t 2 0 + 3 * overCount t) (length t)
-
-  pub entries-no : not (leb 9 s && leb s 25 && leb d 262144 && leb n 65536) ≡ true → false ≡ entriesOk t
-  unfolding rest
-  entries-no h = ap rest (sym (sym same ∙ not-true _ h))
-
-  module _ (h : not (leb 9 s && leb s 25 && leb d 262144 && leb n 65536) ≡ false) where
-    pub entries-rest : leb (16 + 2 * d + 3 * n) (length t) ≡ entriesOk t
-    unfolding rest
-    entries-rest = ap₂ (λ (i j : ℕ). leb (16 + 2 * i + 3 * j) (length t)) ed en ∙ ap rest (sym (sym same ∙ not-false _ h))
-
-    pub entries-small : (d ≤ 262144) × (n ≤ 65536)
-    entries-small =
-        let a = both (leb 9 s && leb s 25 && leb d 262144) (leb n 65536) (not-false _ h) in
-        let b = both (leb 9 s && leb s 25) (leb d 262144) (a .0) in
-        (leb-true d 262144 (b .1), leb-true n 65536 (a .1))
+pub entries-are : (t : List ℕ) (s d : ℕ) (b : Bool) → s ≡ getD t 0 0 → d ≡ getD t 2 0 → b ≡ entriesIn t d → (leb 9 s && leb s 25 && b) ≡ entriesOk t
+entries-are t s d b es ed eb =
+    ap₂ (λ (i : ℕ) (c : Bool). leb 9 i && leb i 25 && c) es (eb ∙ ap (entriesIn t) ed)
+    ∙ and-four (shiftOk t) (leb (getD t 2 0) 262144) (leb (overCount t) 65536) (leb (16 + 2 * getD t 2 0 + 3 * overCount t) (length t))
 
 -- ---- the word and the part of entry e
-
-module _ (t : List ℕ) (e d : ℕ) (ed : d ≡ getD t 2 0) where
-  pub word-direct : e < d → getD t (16 + 2 * e) 0 ≡ wordAt (headerAt t) t e
-  word-direct l = word-below (headerAt t) t e (omega (arith, ed))
-
-  pub word-over : d ≤ e → getD t (16 + 2 * d + 3 * (e - d) + 1) 0 ≡ wordAt (headerAt t) t e
-  word-over l =
-      ap (λ (k : ℕ). getD t (16 + 2 * k + 3 * (e - k) + 1) 0) ed ∙ word-past (headerAt t) t e (omega (arith, ed))
 
 pub spot-entry : (x : Mem) (e s m w : ℕ) (q : Spot) → s ≡ getD (x .table) 0 0 → m ≡ getD (x .table) 1 0 → w ≡ wordBy x e → q ≡ spotOf s m (length (x .pages)) (length (x .rows)) w → q ≡ spotBy x (wordBy x e)
 spot-entry x e s m w q es em ew h =

@@ -4,6 +4,7 @@ ghost use Rattle.idset.specs.Answers.{Len, IsEmpty, HasAny, ChunkCount};
 use crate::entries;
 use layout::answer::Amount;
 use layout::answer::Truth;
+use layout::entry;
 
 // The members.
 pub fn len(pages: &[u64], rows: &[u32], blocks: &[u32], table: &[u64]) -> Amount
@@ -61,7 +62,7 @@ pub fn has_any(pages: &[u64], rows: &[u32], blocks: &[u32], table: &[u64]) -> Tr
     let n = entries::number(table);
     let mut e: u64 = 0;
     while e < n {
-        if entries::word_at(table, e) != 0 {
+        if entry::word_by(table, e) != 0 {
             return Truth::Is(true);
         }
         e += 1;
@@ -80,7 +81,7 @@ pub fn allocated_chunk_count(pages: &[u64], rows: &[u32], blocks: &[u32], table:
     let mut sum: u64 = 0;
     let mut e: u64 = 0;
     while e < n {
-        sum += (entries::word_at(table, e) != 0) as u64;
+        sum += (entry::word_by(table, e) != 0) as u64;
         e += 1;
     }
     Amount::Of(sum)

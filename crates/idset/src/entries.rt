@@ -1,14 +1,15 @@
-// The entries one by one: whether they lie in the table, their words, and the part that each names.
+// The entries one by one: whether they lie in the table, and the part that each names.
 ghost use mathlib.Core.Path.{_≡_};
 ghost use mathlib.Core.Bool.{true};
 ghost use Prim.Native.Nat.{_≤_};
 ghost use lib.Dec.{eqb};
 ghost use Rattle.layout.specs.Mem.{memOf};
 ghost use Rattle.layout.specs.Sizes.{headerAt};
-ghost use Rattle.layout.specs.Entries.{wordAt, entries};
+ghost use Rattle.layout.specs.Entries.{entries};
 ghost use Rattle.calls.specs.Reading.{spotBy};
 ghost use Rattle.calls.specs.Counts.{entriesOk, wordBy, goodAt, sizeAt};
 use dense::words;
+use layout::entry;
 use layout::find;
 use layout::find::Spot;
 use numbers::place as element;
@@ -30,12 +31,7 @@ pub fn are(table: &[u64]) -> bool
     ensures { λ b. ⌜ b ≡ entriesOk (now (table .entry)) ⌝ }
 {
     let s = element::at(table, 0);
-    let d = element::at(table, 2);
-    let n = element::at(table, 7);
-    if !((9 <= s) & (s <= 25) & (d <= 262144) & (n <= 65536)) {
-        return false;
-    }
-    16 + 2 * d + 3 * n <= table.len() as u64
+    (9 <= s) & (s <= 25) & find::entries_in(table, element::at(table, 2))
 }
 
 // How many there are.
@@ -44,18 +40,6 @@ pub fn number(table: &[u64]) -> u64
     ensures { λ n. ⌜ (n ≡ entries (headerAt (now (table .entry))) (now (table .entry))) × (n ≤ 327680) ⌝ }
 {
     element::at(table, 2) + element::at(table, 7)
-}
-
-// The word of entry e.
-pub fn word_at(table: &[u64], e: u64) -> u64
-    requires { ⌜ (entriesOk (now table) ≡ true) × (e ≤ 327680) ⌝ }
-    ensures { λ w. ⌜ w ≡ wordAt (headerAt (now (table .entry))) (now (table .entry)) e ⌝ }
-{
-    let d = element::at(table, 2);
-    if e < d {
-        return element::at(table, 16 + 2 * e);
-    }
-    element::at(table, 16 + 2 * d + 3 * (e - d) + 1)
 }
 
 // The part that entry e names.
@@ -68,7 +52,7 @@ pub fn spot_at(pages: &[u64], rows: &[u32], blocks: &[u32], table: &[u64], e: u6
         element::at(table, 1),
         pages.len() as u64,
         rows.len() as u64,
-        word_at(table, e),
+        entry::word_by(table, e),
     )
 }
 

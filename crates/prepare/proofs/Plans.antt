@@ -54,9 +54,9 @@ module _ (h : Header) (t : List ℕ) (c : ℕ) where
   unfolding pagesNeeded
   pages-are k e ek ee = ap (λ (i : ℕ). i + (c + 1)) (ek ∙ ap (count densePast) ee)
 
-  pub over-is : (n k i : ℕ) → n ≡ overCount t → k ≡ overPlace t (16 + 2 * h .d) n (c + 1) → i ≡ c + 1 - h .d → n - k + i ≡ overNeeded h t c
+  pub over-is : (n k i : ℕ) → n ≡ overCount t → k ≡ overPlace t (16 + 2 * h .d) (overCount t) (c + 1) → i ≡ c + 1 - h .d → n - k + i ≡ overNeeded h t c
   unfolding overNeeded
-  over-is n k i en ek ei = ap₂ _+_ (ap (λ (j : ℕ). n - j) ek ∙ ap (λ (j : ℕ). j - overPlace t (16 + 2 * h .d) j (c + 1)) en) ei
+  over-is n k i en ek ei = ap₂ _+_ (ap₂ _-_ en ek) ei
 
   -- ---- 6 before 8
 

@@ -1,13 +1,11 @@
--- One chunk's turn: the search for a free page, and what each place makes of it. Assumes nothing.
+-- One chunk's turn: a free page, and what each place makes of it. Assumes nothing.
 use mathlib.Core.Path.{_≡_, sym, _∙_, ap, ap₂, subst}
 use mathlib.Core.List.{List}
 use mathlib.Core.Bool.{Bool, cond}
-use Prim.Native.Nat.{ℕ, suc, _+_, _-_, _*_, _≤_, _<_}
-use native.Mathlib.Numerals.{add-one}
+use Prim.Native.Nat.{ℕ, _+_, _*_, _≤_, _<_}
 use native.Mathlib.Omega.{arith}
 use lib.ListN.{replicate}
-use lib.Dec.{eqb}
-use borrow.Author.Tests.{eq-eqb, ne-eqb, lt-ltb, le-ltb}
+use borrow.Author.Tests.{lt-ltb, le-ltb}
 use Rattle.dense.specs.Bits.{withRow}
 use Rattle.layout.specs.Mem.{Mem, mem}
 use Rattle.layout.specs.Sizes.{top, wide}
@@ -19,31 +17,9 @@ use Rattle.layout.specs.declared.find.Word.{Word}
 use Rattle.layout.specs.declared.find.Word.the-variants as word
 use Rattle.steps.specs.Writes.{putPart, putWord, putRowOwner, putPageOwner, putRow}
 use Rattle.steps.specs.Steps.{paged}
-use Rattle.calls.specs.Insert.{firstFree}
 use Rattle.calls.specs.Prepare.{Work, work, intoPage, intoFree, densed, densedWord}
 use Rattle.prepare.specs.Ready.{RowInside, WordInside}
 use Rattle.prepare.proofs.Fills.{put-same}
-
--- ---- the search, turn by turn
-
-module _ (f : ℕ → ℕ) (k i : ℕ) where
-  module _ (l : i < k) where
-    left : k - i ≡ suc (k - (i + 1))
-    left = omega arith
-
-    turn : (b : Bool) → eqb (f i) 0 ≡ b → cond b i (firstFree f (suc i) (k - (i + 1))) ≡ firstFree f i (k - i)
-    unfolding firstFree
-    turn b e = ap (λ (c : Bool). cond c i (firstFree f (suc i) (k - (i + 1)))) (sym e) ∙ ap (firstFree f i) (sym left)
-
-    pub free-here : f i ≡ 0 → i ≡ firstFree f i (k - i)
-    free-here e = turn _ (eq-eqb (f i) 0 e)
-
-    pub free-more : (f i ≡ 0 → ⊥) → firstFree f (i + 1) (k - (i + 1)) ≡ firstFree f i (k - i)
-    free-more n = ap (λ (j : ℕ). firstFree f j (k - (i + 1))) (add-one i) ∙ turn _ (ne-eqb (f i) 0 n)
-
-  pub free-end : k ≤ i → i ≡ firstFree f i (k - i)
-  unfolding firstFree
-  free-end l = let e : 0 ≡ k - i = omega arith in ap (firstFree f i) e
 
 -- ---- a page is found, or none
 

@@ -66,7 +66,7 @@ pub fn over_needed(table: &[u64], h: Header, c: u64) -> u64
     ensures { λ n. ⌜ n ≡ overNeeded h (now (table .entry)) c ⌝ }
 {
     let n = element::at(table, 7);
-    let k = find::over_place(table, 16 + 2 * h.d, n, c + 1);
+    let k = find::over_below(table, h, c + 1);
     n - k + order::minus(c + 1, h.d)
 }
 

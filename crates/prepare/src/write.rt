@@ -1,43 +1,27 @@
 // Chunks made dense, one after the other: a free page, the members of the chunk's row, the table.
 ghost use mathlib.Core.Path.{_≡_};
 ghost use mathlib.Core.List.{List};
-ghost use Prim.Native.Nat.{ℕ, _+_, _-_, _*_, _^_, _≤_, _<_};
-ghost use lib.ListN.{length, replicate};
+ghost use Prim.Native.Nat.{ℕ, _+_, _*_, _^_, _≤_, _<_};
+ghost use lib.ListN.{length};
 ghost use Rattle.dense.specs.Bits.{withRow};
 ghost use Rattle.layout.specs.Mem.{mem};
 ghost use Rattle.layout.specs.Sizes.{InRange, top, wide, headerAt, overCount};
-ghost use Rattle.layout.specs.Places.{encoded, rowPart, pagePart, pageOwner};
+ghost use Rattle.layout.specs.Places.{encoded, rowPart, pagePart};
 ghost use Rattle.layout.specs.Short.{wordIn};
 ghost use Rattle.layout.specs.declared.place.Place.the-variants.{Absent, Sparse, Dense};
-ghost use Rattle.steps.specs.Writes.{putPart, putWord, putRowOwner, putPageOwner, putRow};
-ghost use Rattle.calls.specs.Insert.{firstFree};
+ghost use Rattle.steps.specs.Writes.{putPart, putWord, putPageOwner};
 ghost use Rattle.calls.specs.Prepare.{work, densed, densedWord, densedTo, overNeeded};
 ghost use Rattle.prepare.specs.Ready.{Sound, Fillable, Turnable};
-use layout::entry;
 use layout::find;
 use layout::find::Word;
 use layout::head;
 use layout::head::Header;
+use layout::owners;
 use layout::place;
 use layout::place::Place;
 use numbers::power;
+use steps::turn;
 use steps::write;
-
-// The lowest free page from `next` on: pages are only taken, so that those before it stay taken.
-pub fn free_page(table: &[u64], h: Header, next: u64) -> u64
-    requires { ⌜ InRange h × (next ≤ 65536) ⌝ }
-    ensures { λ p. ⌜ p ≡ firstFree (pageOwner h (now (table .entry))) next (h .p - next) ⌝ }
-{
-    let n = h.p;
-    let mut p = next;
-    while p < n {
-        if entry::page_owner(table, h, p) == 0 {
-            return p;
-        }
-        p += 1;
-    }
-    p
-}
 
 // Page p gets the l members of row r.
 pub fn fill_page(pages: &mut [u64], rows: &[u32], h: Header, r: u64, l: usize, p: u64)
@@ -52,17 +36,6 @@ pub fn fill_page(pages: &mut [u64], rows: &[u32], h: Header, r: u64, l: usize, p
     dense::write_row(&mut pages[b..f], &rows[a..e], l, s);
 }
 
-// Row r is free again: filled with zeros.
-pub fn free_row(rows: &mut [u32], h: Header, r: u64)
-    requires { ⌜ InRange h × (r < h .r) × (h .r * h .m ≤ length (now rows)) ⌝ }
-    ensures { λ _. ⌜ now (rows .exit) ≡ putRow h (now (rows .entry)) r (replicate (h .m) 0) ⌝ }
-{
-    let m = h.m as usize;
-    let a = head::row_at(h, r) as usize;
-    let e = a + m;
-    sparse::clear(&mut rows[a..e], m);
-}
-
 // Chunk c, absent until now, stands in page p.
 pub fn enter_page(table: &mut [u64], h: Header, c: u64, p: u64)
     requires { ⌜ InRange h × (p < h .p) × (overCount (now table) ≤ 65536) × (c < 2 ^ 62) ⌝ }
@@ -72,22 +45,12 @@ pub fn enter_page(table: &mut [u64], h: Header, c: u64, p: u64)
     write::put_page_owner(table, h, p, c + 1);
 }
 
-// Chunk c stands in page p, and row r, which it had, has no owner.
-pub fn turn_entry(table: &mut [u64], h: Header, c: u64, r: u64, p: u64)
-    requires { ⌜ InRange h × (r < h .r) × (p < h .p) × (overCount (now table) ≤ 65536) × (c < 2 ^ 62) ⌝ }
-    ensures { λ _. ⌜ now (table .exit) ≡ putPageOwner h (putRowOwner h (putWord h (now (table .entry)) c (encoded (Dense p))) r 0) p (c + 1) ⌝ }
-{
-    write::put_word(table, h, c, place::page_word(p));
-    write::put_row_owner(table, h, r, 0);
-    write::put_page_owner(table, h, p, c + 1);
-}
-
-// An absent chunk: the page that it gets is left as it is.
+// An absent chunk: the page that it gets is left as it is. Pages are only taken, so that those before `next` stay taken.
 pub fn absent_to(table: &mut [u64], h: Header, c: u64, next: u64) -> u64
     requires { ⌜ InRange h × (overCount (now table) ≤ 65536) × (c < 2 ^ 62) × (next ≤ 65536) ⌝ }
     ensures { λ k. ⌜ ((ps rs bs : List ℕ) → work (mem ps rs bs (now (table .exit))) k ≡ densed h (work (mem ps rs bs (now (table .entry))) next) c Absent) × (k ≤ 65536) ⌝ }
 {
-    let p = free_page(table, h, next);
+    let p = owners::next_page(table, h, next);
     if h.p <= p {
         return next;
     }
@@ -109,13 +72,13 @@ pub fn sparse_to(
     requires { ⌜ Fillable h (length (now pages)) (length (now rows)) r l × (overCount (now table) ≤ 65536) × (c < 2 ^ 62) × (next ≤ 65536) ⌝ }
     ensures { λ k. ⌜ ((bs : List ℕ) → work (mem (now (pages .exit)) (now (rows .exit)) bs (now (table .exit))) k ≡ densed h (work (mem (now (pages .entry)) (now (rows .entry)) bs (now (table .entry))) next) c (Sparse r l)) × (k ≤ 65536) ⌝ }
 {
-    let p = free_page(table, h, next);
+    let p = owners::next_page(table, h, next);
     if h.p <= p {
         return next;
     }
     fill_page(pages, rows, h, r, l as usize, p);
-    free_row(rows, h, r);
-    turn_entry(table, h, c, r, p);
+    turn::free_row(rows, h, r);
+    turn::turn_entry(table, h, c, r, p);
     p + 1
 }
 

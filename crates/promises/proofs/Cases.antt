@@ -34,7 +34,8 @@ use Rattle.calls.specs.Prepare.{densedTo, overNeeded, pagesNeeded, prepareBy}
 use Rattle.calls.specs.Counts.{goodAt, sizeAt, usedAt, partsOk, lenBy, hasAnyBy}
 use Rattle.calls.specs.Promise.{State}
 use Rattle.ranks.specs.Form.{prefixed, blocked, blockedTo, toRanked, rankUpBy}
-use Rattle.ranks.specs.Rank.{seatIn, rankBy, rankIfBy}
+use Rattle.layout.specs.Seat.{seatIn}
+use Rattle.ranks.specs.Rank.{rankBy, rankIfBy}
 use Rattle.promises.specs.Calls.{Call, insert, prepared, prepare, rank-up, leave, Fitting, Said}
 use Rattle.promises.specs.Asks.{asked}
 use Rattle.promises.specs.Stories.{Story, made, then, Told, reached}

@@ -23,8 +23,8 @@ use Rattle.layout.specs.declared.answer.Perhaps.{Perhaps}
 use Rattle.layout.specs.declared.answer.Perhaps.the-variants as perhaps
 use Rattle.calls.specs.Reading.{spotBy}
 use Rattle.ranks.specs.Rank.{belowAt, plus, rankSeat, rankSplit, ifRanked, rankBy, hasSpot, perhapsOf, rankIfSeat, rankIfSplit, rankIfBy, totalBy}
-use Rattle.ranks.specs.declared.Seat.{Seat}
-use Rattle.ranks.specs.declared.Seat.the-variants as seat
+use Rattle.layout.specs.declared.seat.Seat.{Seat}
+use Rattle.layout.specs.declared.seat.Seat.the-variants as seat
 use Rattle.ranks.proofs.Ranks.{rank-is, rank-if-is, total-is}
 use Rattle.ranked.specs.Modes.{formIn}
 use Rattle.ranked.specs.Answers.{RankOf, RankIfOf, TotalOf}

@@ -1,5 +1,4 @@
 pub mod Modes
-pub mod Seats
 pub mod Parts
 pub mod Belows
 pub mod Answers

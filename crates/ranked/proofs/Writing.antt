@@ -1,31 +1,26 @@
 -- Prefixes, a turn at a time: what has been written, and the members so far. Assumes nothing.
 use mathlib.Core.Path.{_≡_, refl, sym, ap, ap₂, subst, _∙_}
 use mathlib.Core.List.{List}
-use mathlib.Core.Bool.{Bool, cond}
 use Prim.Native.Nat.{ℕ, _+_, _-_, _≤_, _<_}
 use native.Mathlib.Numerals.{add-one}
 use native.Mathlib.Omega.{arith}
 use lib.ListN.{length, set, length-set}
-use borrow.Author.Tests.{le-ltb}
 use Rattle.sums.specs.Sums.{sumTo}
 use Rattle.sums.proofs.Sums.{sum-next, sum-bound}
 use Rattle.numbers.proofs.Powers.{powers}
 use Rattle.dense.proofs.Counts.{bits-le}
-use Rattle.layout.specs.Sizes.{InRange, top, directAt, overAt, overCount}
+use Rattle.layout.specs.Sizes.{InRange, top, overCount}
 use Rattle.layout.specs.Places.{decoded, pagePart}
-use Rattle.layout.specs.Entries.{entries, placeAt}
+use Rattle.layout.specs.Entries.{entries, placeAt, prefixPlace}
 use Rattle.layout.specs.Follows.{sizeOf}
 use Rattle.layout.specs.declared.head.Header.{Header}
 use Rattle.layout.specs.declared.place.Place.{Place}
 use Rattle.layout.specs.declared.place.Place.the-variants.{Absent, Sparse, Dense}
-use Rattle.ranks.specs.Form.{prefixPlace, prefixed}
+use Rattle.ranks.specs.Form.{prefixed}
 use Rattle.ranks.proofs.Prefixes.{prefixed-word}
 use Rattle.ranked.specs.Counts.{entrySize, Inside, Places}
 
 -- ---- one entry
-
-pub place-past : (h : Header) (e : ℕ) → h .d ≤ e → overAt h (e - h .d) + 2 ≡ prefixPlace h e
-place-past h e l = ap (λ (b : Bool). cond b (directAt e + 1) (overAt h (e - h .d) + 2)) (sym (le-ltb e (h .d) l))
 
 module _ (h : Header) (pages t : List ℕ) (e : ℕ) (q : Place) (f : q ≡ placeAt h t e) where
   pub size-way : (p : Place) → q ≡ p → sizeOf h pages p ≡ entrySize h pages t e

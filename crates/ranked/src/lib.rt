@@ -5,4 +5,3 @@ pub mod form;
 mod mode;
 mod prefixes;
 pub mod rank;
-mod seat;

@@ -1,17 +1,18 @@
 // Prefixes: beside each entry, the members of the entries before it.
 ghost use mathlib.Core.Path.{_≡_};
 ghost use Prim.Native.Nat.{_*_, _≤_, _<_};
-ghost use lib.ListN.{length, set};
+ghost use lib.ListN.{length};
 ghost use Rattle.sums.specs.Sums.{sumTo};
 ghost use Rattle.layout.specs.Sizes.{InRange, wide, overCount};
 ghost use Rattle.layout.specs.Entries.{entries, placeAt};
-ghost use Rattle.ranks.specs.Form.{prefixPlace, prefixed, marked};
+ghost use Rattle.ranks.specs.Form.{prefixed, marked};
 ghost use Rattle.ranked.specs.Counts.{entrySize, Told, Inside, Places};
 use crate::blocks;
 use layout::entry;
 use layout::head::Header;
 use layout::place::Place;
 use numbers::place as element;
+use steps::write;
 
 // How many entries there are.
 pub fn entry_count(table: &[u64], h: Header) -> u64
@@ -19,18 +20,6 @@ pub fn entry_count(table: &[u64], h: Header) -> u64
     ensures { λ n. ⌜ (n ≡ entries h (now (table .entry))) × (n ≤ 327680) ⌝ }
 {
     h.d + element::at(table, 7)
-}
-
-// The prefix of entry e.
-pub fn put_prefix(table: &mut [u64], h: Header, e: u64, v: u64)
-    requires { ⌜ InRange h × (e ≤ 327680) ⌝ }
-    ensures { λ _. ⌜ now (table .exit) ≡ set (now (table .entry)) (prefixPlace h e) v ⌝ }
-{
-    if e < h.d {
-        element::put(table, 16 + 2 * e + 1, v);
-    } else {
-        element::put(table, 16 + 2 * h.d + 3 * (e - h.d) + 2, v);
-    }
 }
 
 // The members of entry e.
@@ -55,7 +44,7 @@ pub fn put_prefixes(h: Header, pages: &[u64], counts: &[u32], table: &mut [u64])
     let mut e: u64 = 0;
     while e < n {
         let k = entry_size(h, pages, counts, table, e);
-        put_prefix(table, h, e, sum);
+        write::put_prefix(table, h, e, sum);
         sum += k;
         e += 1;
     }
@@ -70,7 +59,7 @@ pub fn clear_prefixes(h: Header, table: &mut [u64])
     let n = entry_count(table, h);
     let mut e: u64 = 0;
     while e < n {
-        put_prefix(table, h, e, 0);
+        write::put_prefix(table, h, e, 0);
         e += 1;
     }
 }

@@ -3,18 +3,19 @@ ghost use mathlib.Core.Path.{_≡_};
 ghost use Prim.Native.Nat.{_^_, _≤_, _<_};
 ghost use lib.ListN.{getD};
 ghost use Rattle.layout.specs.Mem.{memOf};
-ghost use Rattle.ranks.specs.Rank.{seatIn, rankSeat, rankIfSeat, perhapsOf};
+ghost use Rattle.layout.specs.Seat.{seatIn};
+ghost use Rattle.ranks.specs.Rank.{rankSeat, rankIfSeat, perhapsOf};
 ghost use Rattle.ranked.specs.Answers.{RankOf, RankIfOf, TotalOf};
 use crate::chunk;
 use crate::mode;
 use crate::mode::Form;
-use crate::seat;
 use layout::answer::Amount;
 use layout::answer::Perhaps;
+use layout::seat;
+use layout::seat::Seat;
 use numbers::Split;
 use numbers::id as ids;
 use numbers::place as element;
-use ranks::Seat;
 
 // Members below offset o of chunk c: one entry with its prefix, then the chunk itself.
 fn rank_at(

@@ -2,29 +2,26 @@
 use mathlib.Core.Path.{_≡_, refl, sym, ap, _∙_}
 use mathlib.Core.Logic.{_⊎_, inl, inr, _≢_}
 use mathlib.Core.List.{List}
-use mathlib.Core.Bool.{Bool, cond}
 use Prim.Native.Nat.{ℕ, zero, suc, _+_, _-_, _≤_, _<_}
 use native.Mathlib.Omega.{arith}
 use lib.ListN.{length, getD, set, length-set}
 use lib.Seq.{getD-set-same, getD-set-other}
-use borrow.Author.Tests.{lt-ltb, le-ltb}
 use Rattle.sums.proofs.Sums.{last-or}
 use Rattle.layout.specs.Sizes.{directAt, overAt, modeAt, overCount, totalAt}
-use Rattle.layout.specs.Entries.{entries, chunkAt, wordAt, prefixAt}
+use Rattle.layout.specs.Entries.{entries, chunkAt, wordAt, prefixAt, prefixPlace}
 use Rattle.layout.specs.declared.head.Header.{Header}
+use Rattle.layout.proofs.Entries.{place-below, place-past}
 use Rattle.layout_laws.proofs.Entries.{Which, direct, over, which, chunk-direct, chunk-over, word-direct, word-over}
-use Rattle.ranks.specs.Form.{prefixPlace, prefixed, marked}
+use Rattle.ranks.specs.Form.{prefixed, marked}
 
 -- ---- where prefixes stand
 
 module _ (h : Header) where
   pub place-direct : (e : ℕ) → e < h .d → prefixPlace h e ≡ directAt e + 1
-  place-direct e l = ap (λ (b : Bool). cond b (directAt e + 1) (overAt h (e - h .d) + 2)) (lt-ltb e (h .d) l)
+  place-direct e l = sym (place-below h e l)
 
   pub place-over : (j : ℕ) → prefixPlace h (h .d + j) ≡ overAt h j + 2
-  place-over j =
-      let e : h .d + j - h .d ≡ j = omega arith in
-      ap (λ (b : Bool). cond b (directAt (h .d + j) + 1) (overAt h (h .d + j - h .d) + 2)) (le-ltb (h .d + j) (h .d) (omega arith)) ∙ ap (λ (i : ℕ). overAt h i + 2) e
+  place-over j = let e : h .d + j - h .d ≡ j = omega arith in sym (place-past h (h .d + j) (omega arith)) ∙ ap (λ (i : ℕ). overAt h i + 2) e
 
   pub place-apart : (i e : ℕ) → i < e → prefixPlace h i ≢ prefixPlace h e
   place-apart i e l = go (which (h .d) i) (which (h .d) e)

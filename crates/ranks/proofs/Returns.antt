@@ -14,14 +14,14 @@ use borrow.Author.Tests.{ltb-true, ltb-false, eqb-true, eqb-false}
 use Rattle.sums.specs.Sums.{sumTo}
 use Rattle.layout.specs.Mem.{Mem, mem}
 use Rattle.layout.specs.Sizes.{blocksOf, head, modeAt}
-use Rattle.layout.specs.Entries.{entries, prefixAt}
+use Rattle.layout.specs.Entries.{entries, prefixAt, prefixPlace}
 use Rattle.layout.specs.Meaning.{ranked}
 use Rattle.layout.specs.Follows.{membersAt, kept, Follows}
 use Rattle.layout.specs.SetUp.{zeroed}
 use Rattle.layout_laws.proofs.Keys.{Sought, found, missed, seek}
 use Rattle.layout_laws.proofs.Walked.{laid-walked}
 use Rattle.layout_laws.proofs.Fresh.{zeroed-at, zeroed-past, zeroed-length}
-use Rattle.ranks.specs.Form.{prefixPlace, prefixed, marked, blockedTo, toRanked, toOpen}
+use Rattle.ranks.specs.Form.{prefixed, marked, blockedTo, toRanked, toOpen}
 use Rattle.ranks.proofs.Prefixes.{Recounted, recounted, over-same}
 use Rattle.ranks.proofs.Blocks.{blocks-length, blocks-past}
 use Rattle.ranks.proofs.Forms.{entries-inside}

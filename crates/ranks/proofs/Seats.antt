@@ -14,8 +14,8 @@ use Rattle.layout.specs.Short.{keyAt, overPlace}
 use Rattle.layout_laws.specs.Chunks.{entryFrom, firstRank}
 use Rattle.layout_laws.proofs.Entries.{walked-ordered, word-direct, word-of-direct, prefix-direct, prefix-over}
 use Rattle.layout_laws.proofs.Short.{over-word-is}
-use Rattle.ranks.specs.Rank.{directSeat, overSeat, overflowSeat, seatIn}
-use Rattle.ranks.specs.declared.Seat.the-variants as seat
+use Rattle.layout.specs.Seat.{directSeat, overSeat, overflowSeat, seatIn}
+use Rattle.layout.specs.declared.seat.Seat.the-variants as seat
 
 module _ {x : Mem} (w : Walked x (head x)) (c : ℕ) where
   -- the first entry from e on, or past the last one the total

@@ -1,24 +1,20 @@
 -- `into_ranked` and leaving the ranked form on any memory: a walk, then folds over entries and pages.
-use Prim.Native.Nat.{ℕ, zero, suc, _+_, _*_, _-_}
+use Prim.Native.Nat.{ℕ, zero, suc, _+_, _*_}
 use mathlib.Core.List.{List, [], _∷_, _++_}
 use mathlib.Core.Bool.{Bool, cond}
 use lib.ListN.{set}
-use lib.Dec.{ltb, eqb}
+use lib.Dec.{eqb}
 use Rattle.sums.specs.Sums.{sumTo}
 use Rattle.dense.specs.Bits.{bitsTo}
 use Rattle.layout.specs.Mem.{Mem, mem}
-use Rattle.layout.specs.Sizes.{blocksOf, directAt, overAt, head, modeAt}
+use Rattle.layout.specs.Sizes.{blocksOf, head, modeAt}
 use Rattle.layout.specs.Places.{pagePart}
-use Rattle.layout.specs.Entries.{entries}
+use Rattle.layout.specs.Entries.{entries, prefixPlace}
 use Rattle.layout.specs.Follows.{membersAt}
 use Rattle.layout.specs.Tests.{walked}
 use Rattle.layout.specs.SetUp.{Did, did, zeroed}
 use Rattle.layout.specs.declared.head.Header.{Header}
 use Rattle.layout.specs.declared.answer.Outcome.the-variants.{Done, Refused}
-
--- where entry e's prefix stands
-abbrev pub prefixPlace : Header → ℕ → ℕ
-prefixPlace h e = cond (ltb e (h .d)) (directAt e + 1) (overAt h (e - h .d) + 2)
 
 -- f e as the prefix of entry e, for the first n
 unfoldable pub prefixed : Header → List ℕ → (ℕ → ℕ) → ℕ → List ℕ

@@ -1,5 +1,5 @@
 -- `rank`, `rank_if_set` and `total_count` on any memory: one entry with its prefix, one block count, at most eight words.
-use Prim.Native.Nat.{ℕ, _+_, _*_, _-_, _/_, _%_, _^_}
+use Prim.Native.Nat.{ℕ, _+_, _*_, _/_, _%_, _^_}
 use mathlib.Core.List.{List}
 use mathlib.Core.Bool.{Bool, true, false, cond, _&&_}
 use lib.IntN.{ℤ, pos, negsuc}
@@ -11,36 +11,17 @@ use Rattle.numbers.specs.declared.Split.the-variants as split
 use Rattle.sparse.specs.Search.{lowerOf, searchIn}
 use Rattle.dense.specs.Bits.{bitsTo, isSet}
 use Rattle.layout.specs.Mem.{Mem}
-use Rattle.layout.specs.Sizes.{directAt, modeAt, overCount, totalAt}
-use Rattle.layout.specs.Short.{keyAt, overPlace}
+use Rattle.layout.specs.Sizes.{modeAt, totalAt}
+use Rattle.layout.specs.Seat.{seatIn}
 use Rattle.layout.specs.declared.answer.Amount.{Amount}
 use Rattle.layout.specs.declared.answer.Amount.the-variants as amount
 use Rattle.layout.specs.declared.answer.Perhaps.{Perhaps}
 use Rattle.layout.specs.declared.answer.Perhaps.the-variants as perhaps
+use Rattle.layout.specs.declared.seat.Seat.{Seat}
+use Rattle.layout.specs.declared.seat.Seat.the-variants as seat
 use Rattle.layout.specs.declared.find.Spot.{Spot}
 use Rattle.layout.specs.declared.find.Spot.the-variants.{Nowhere, Row, Page, Bad}
 use Rattle.calls.specs.Reading.{shiftOk, spotBy, isFound}
-use Rattle.ranks.specs.declared.Seat.{Seat}
-use Rattle.ranks.specs.declared.Seat.the-variants as seat
-
--- chunk c's word (0: absent) and the members of the chunks before it
-abbrev pub directSeat : List ℕ → ℕ → Seat
-directSeat t c = cond (ltb (directAt c + 1) (length t)) (seat.At (getD t (directAt c) 0) (getD t (directAt c + 1) 0)) seat.Bad
-
--- overflow entry k of n, from a on: the first whose id is not below c
-abbrev pub overSeat : List ℕ → ℕ → ℕ → ℕ → ℕ → Seat
-overSeat t a n c k =
-    cond (ltb k n)
-    (seat.At (cond (eqb (keyAt t a k) c) (getD t (a + 3 * k + 1) 0) 0) (getD t (a + 3 * k + 2) 0))
-    (seat.At 0 (totalAt t))
-
-abbrev pub overflowSeat : List ℕ → ℕ → ℕ → Seat
-overflowSeat t d c =
-    cond (leb d 262144 && leb (overCount t) 65536 && leb (16 + 2 * d + 3 * overCount t) (length t))
-    (overSeat t (16 + 2 * d) (overCount t) c (overPlace t (16 + 2 * d) (overCount t) c)) seat.Bad
-
-unfoldable pub seatIn : List ℕ → ℕ → Seat
-seatIn t c = cond (ltb c (getD t 2 0)) (directSeat t c) (overflowSeat t (getD t 2 0) c)
 
 -- members of a page below offset o: those before its block, and those within the block of eight words
 abbrev pub inPage : Mem → ℕ → ℕ → ℕ → Amount

@@ -7,7 +7,8 @@ use lib.ListN.{getD}
 use Rattle.sums.specs.Ids.{count}
 use Rattle.sums.proofs.Counts.{byte-le, count-zero}
 use Rattle.fullcheck.specs.Check.{kindAt}
-use Rattle.fullcheck.proofs.Ways.{kind-passes, count-more}
+use Rattle.layout.proofs.Free.{count-more}
+use Rattle.fullcheck.proofs.Ways.{kind-passes}
 use Rattle.fullcheck.proofs.table.kind_count.Statement.{statement}
 use Rattle.fullcheck.proofs.table.kind_count.Tie as tie
 

@@ -9,6 +9,7 @@ use Rattle.layout.specs.Mem.{Mem, mem, memOf}
 use Rattle.sums.specs.Ids.{count}
 use Rattle.sums.proofs.Counts.{count-zero}
 use Rattle.calls.specs.Counts.{usedAt}
+use Rattle.idset.proofs.Runs.{run}
 use Rattle.idset.proofs.Totals.{chunks-no, chunk-more, chunk-fits, chunks-is}
 use borrow.Author.Needs.{needs}
 use Rattle.idset.proofs.count.allocated_chunk_count.Statement.{statement}
@@ -35,14 +36,14 @@ number-requires c κs = sym (c .before .are .ensures) ∙ not-false _ (c .if1 .l
 loop-holds : tie.Need-loop-holds Inv-loop μ-loop
 loop-holds c = (omega arith, sym (count-zero _))
 
-word-at-requires : tie.Need-word-at-requires Inv-loop μ-loop
-word-at-requires c κs = (sym (c .before .before .before .before .are .ensures) ∙ not-false _ (c .before .before .before .if1 .left), omega (arith, c .loop-test, c .before .before .number .ensures .1))
+word-by-requires : tie.Need-word-by-requires Inv-loop μ-loop
+word-by-requires c κs = (run (memory (c .before .before .before .before .before .before .before .before .before) .table) (sym (c .before .before .before .before .are .ensures) ∙ not-false _ (c .before .before .before .if1 .left)) .direct, omega (arith, c .loop-test, c .before .before .number .ensures .1))
 
 cast-sum : tie.Need-cast-sum Inv-loop μ-loop
 cast-sum c = search needs
 
 add-sum : tie.Need-add-sum Inv-loop μ-loop
-add-sum c = chunk-fits (memory (c .before .before .before .before .before .before .before .before .before .before)) (c .before .before .loop .e) _ (c .before .before .loop .inv .1) _ (c .word-at .ensures) (omega (arith, c .before .loop-test, c .before .before .before .number .ensures .1))
+add-sum c = chunk-fits (memory (c .before .before .before .before .before .before .before .before .before .before)) (c .before .before .loop .e) _ (c .before .before .loop .inv .1) _ (c .word-by .ensures) (omega (arith, c .before .loop-test, c .before .before .before .number .ensures .1))
 
 add-e : tie.Need-add-e Inv-loop μ-loop
 add-e c = omega (arith, c .before .loop-test, c .before .before .before .number .ensures .1)
@@ -51,7 +52,7 @@ loop-less : tie.Need-loop-less Inv-loop μ-loop
 loop-less c = omega arith
 
 loop-again : tie.Need-loop-again Inv-loop μ-loop
-loop-again c = let l = c .before .before .loop in (omega (arith, c .before .loop-test), chunk-more (memory (c .before .before .before .before .before .before .before .before .before .before)) (l .e) _ (l .inv .1) _ (c .word-at .ensures))
+loop-again c = let l = c .before .before .loop in (omega (arith, c .before .loop-test), chunk-more (memory (c .before .before .before .before .before .before .before .before .before .before)) (l .e) _ (l .inv .1) _ (c .word-by .ensures))
 
 returns-2 : tie.Need-returns-2 Inv-loop μ-loop
 returns-2 c = chunk-count (memory (c .before .before .before .before .before .before .before .before .before)) (let l = c .before .loop in chunks-is (memory (c .before .before .before .before .before .before .before .before .before)) _ (l .e) (c .before .before .number .ensures .0) (l .inv .0) (c .loop-test .left) (sym (c .before .before .before .before .are .ensures) ∙ not-false _ (c .before .before .before .if1 .left)) _ (l .inv .1))
@@ -66,7 +67,7 @@ allocated-chunk-count-spec =
     returns
     number-requires
     loop-holds
-    word-at-requires
+    word-by-requires
     cast-sum
     add-sum
     add-e

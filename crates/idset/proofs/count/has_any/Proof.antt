@@ -9,6 +9,7 @@ use Rattle.layout.specs.Mem.{Mem, mem, memOf}
 use Rattle.sums.specs.Ids.{count}
 use Rattle.sums.proofs.Counts.{count-zero}
 use Rattle.calls.specs.Counts.{usedAt}
+use Rattle.idset.proofs.Runs.{run}
 use Rattle.idset.proofs.Totals.{any-no, any-more, any-none, any-found}
 use Rattle.idset.proofs.count.has_any.Statement.{statement}
 use Rattle.idset.proofs.count.has_any.Tie as tie
@@ -34,11 +35,11 @@ number-requires c κs = sym (c .before .are .ensures) ∙ not-false _ (c .if1 .l
 loop-holds : tie.Need-loop-holds Inv-loop μ-loop
 loop-holds c = (omega arith, count-zero _)
 
-word-at-requires : tie.Need-word-at-requires Inv-loop μ-loop
-word-at-requires c κs = (sym (c .before .before .before .before .are .ensures) ∙ not-false _ (c .before .before .before .if1 .left), omega (arith, c .loop-test, c .before .before .number .ensures .1))
+word-by-requires : tie.Need-word-by-requires Inv-loop μ-loop
+word-by-requires c κs = (run (memory (c .before .before .before .before .before .before .before .before .before) .table) (sym (c .before .before .before .before .are .ensures) ∙ not-false _ (c .before .before .before .if1 .left)) .direct, omega (arith, c .loop-test, c .before .before .number .ensures .1))
 
 returns-2 : tie.Need-returns-2 Inv-loop μ-loop
-returns-2 c = has-any (memory (c .before .before .before .before .before .before .before .before .before .before .before)) (let l = c .before .before .before .loop in any-found (memory (c .before .before .before .before .before .before .before .before .before .before .before)) (sym (c .before .before .before .before .before .before .are .ensures) ∙ not-false _ (c .before .before .before .before .before .if1 .left)) _ (l .e) _ (c .before .before .before .before .number .ensures .0) (c .before .before .loop-test .taken) (c .before .word-at .ensures) (c .if2 .taken))
+returns-2 c = has-any (memory (c .before .before .before .before .before .before .before .before .before .before .before)) (let l = c .before .before .before .loop in any-found (memory (c .before .before .before .before .before .before .before .before .before .before .before)) (sym (c .before .before .before .before .before .before .are .ensures) ∙ not-false _ (c .before .before .before .before .before .if1 .left)) _ (l .e) _ (c .before .before .before .before .number .ensures .0) (c .before .before .loop-test .taken) (c .before .word-by .ensures) (c .if2 .taken))
 
 add-e : tie.Need-add-e Inv-loop μ-loop
 add-e c = omega (arith, c .before .before .loop-test, c .before .before .before .before .number .ensures .1)
@@ -47,7 +48,7 @@ loop-less : tie.Need-loop-less Inv-loop μ-loop
 loop-less c = omega arith
 
 loop-again : tie.Need-loop-again Inv-loop μ-loop
-loop-again c = let l = c .before .before .before .loop in (omega (arith, c .before .before .loop-test), any-more (memory (c .before .before .before .before .before .before .before .before .before .before .before)) (l .e) _ (l .inv .1) (c .before .word-at .ensures) (c .if2 .left))
+loop-again c = let l = c .before .before .before .loop in (omega (arith, c .before .before .loop-test), any-more (memory (c .before .before .before .before .before .before .before .before .before .before .before)) (l .e) _ (l .inv .1) (c .before .word-by .ensures) (c .if2 .left))
 
 returns-3 : tie.Need-returns-3 Inv-loop μ-loop
 returns-3 c = has-any (memory (c .before .before .before .before .before .before .before .before .before)) (let l = c .before .loop in any-none (memory (c .before .before .before .before .before .before .before .before .before)) (sym (c .before .before .before .before .are .ensures) ∙ not-false _ (c .before .before .before .if1 .left)) _ (l .e) (c .before .before .number .ensures .0) (l .inv .0) (c .loop-test .left) (l .inv .1))
@@ -62,7 +63,7 @@ has-any-spec =
     returns
     number-requires
     loop-holds
-    word-at-requires
+    word-by-requires
     returns-2
     add-e
     loop-less

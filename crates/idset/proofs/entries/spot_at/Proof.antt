@@ -15,15 +15,15 @@ at-requires c κs = search needs
 at-requires-2 : tie.Need-at-requires-2
 at-requires-2 c κs = search needs
 
-word-at-requires : tie.Need-word-at-requires
-word-at-requires c κs = search needs
+word-by-requires : tie.Need-word-by-requires
+word-by-requires c κs = let a = c .before .before .before .before .before .before in (run (memory a .table) (a .pre .0) .direct, a .pre .1)
 
 spot-of-requires : tie.Need-spot-of-requires
 spot-of-requires c κs = shift-read (memory (c .before .before .before .before .before .before .before) .table) _ (run _ (c .before .before .before .before .before .before .before .pre .0)) (c .before .before .at .ensures)
 
 returns : tie.Need-returns
-returns c = spot-entry (memory (c .before .before .before .before .before .before .before .before)) (c .before .before .before .before .before .before .before .before .args .e) _ _ _ _ (c .before .before .before .at .ensures) (c .before .before .at2 .ensures) (c .before .word-at .ensures) (c .spot-of .ensures)
+returns c = spot-entry (memory (c .before .before .before .before .before .before .before .before)) (c .before .before .before .before .before .before .before .before .args .e) _ _ _ _ (c .before .before .before .at .ensures) (c .before .before .at2 .ensures) (c .before .word-by .ensures) (c .spot-of .ensures)
 
 pub spot-at-spec : {M : Type 1} → statement M
 spot-at-spec =
-    tie.close (tie.spec at-requires at-requires-2 word-at-requires spot-of-requires returns)
+    tie.close (tie.spec at-requires at-requires-2 word-by-requires spot-of-requires returns)

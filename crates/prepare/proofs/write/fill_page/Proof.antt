@@ -5,7 +5,8 @@ use lib.ListN.{length, take, drop}
 use Rattle.numbers.proofs.Powers.{powers}
 use Rattle.layout.specs.Sizes.{top, wide}
 use Rattle.steps.proofs.Parts.{slot-in}
-use Rattle.prepare.proofs.Fills.{length-lent, fill-put}
+use Rattle.steps.proofs.Lent.{length-lent}
+use Rattle.prepare.proofs.Fills.{fill-put}
 use borrow.Author.Needs.{needs}
 use Rattle.prepare.proofs.write.fill_page.Statement.{statement}
 use Rattle.prepare.proofs.write.fill_page.Tie as tie

@@ -7,14 +7,14 @@ use borrow.Author.Needs.{needs}
 use Rattle.prepare.proofs.write.sparse_to.Statement.{statement}
 use Rattle.prepare.proofs.write.sparse_to.Tie as tie
 
-free-page-requires : tie.Need-free-page-requires
-free-page-requires c κs = search needs
+next-page-requires : tie.Need-next-page-requires
+next-page-requires c κs = search needs
 
 same-length : tie.Need-same-length
 same-length c = search needs
 
 returns : tie.Need-returns
-returns c = let a = c .before .before .before .before .before .before .before in ((λ bs. free-none (a .args .h) (mem (a .args .pages .now) (a .args .rows .now) bs (a .args .table .now)) (a .args .next) (a .args .c) (Sparse (a .args .r) (a .args .l)) _ _ (c .before .before .free-page .ensures) (c .if1 .taken)), a .pre .3)
+returns c = let a = c .before .before .before .before .before .before .before in ((λ bs. free-none (a .args .h) (mem (a .args .pages .now) (a .args .rows .now) bs (a .args .table .now)) (a .args .next) (a .args .c) (Sparse (a .args .r) (a .args .l)) _ _ (c .before .before .next-page .ensures) (c .if1 .taken)), a .pre .3)
 
 fill-page-requires : tie.Need-fill-page-requires
 fill-page-requires c κs = search needs
@@ -38,13 +38,13 @@ same-length-4 : tie.Need-same-length-4
 same-length-4 c = search needs
 
 returns-2 : tie.Need-returns-2
-returns-2 c = let a = c .before .before .before .before .before .before .before .before .before .before .before .before .before .before .before .before .before .before .before .before in ((λ bs. free-some (a .args .h) (mem (a .args .pages .now) (a .args .rows .now) bs (a .args .table .now)) (a .args .next) (a .args .c) (Sparse (a .args .r) (a .args .l)) _ _ (c .before .before .before .before .before .before .before .before .before .before .before .before .before .before .before .free-page .ensures) (c .before .before .before .before .before .before .before .before .before .before .before .before .before .if1 .left) _ (sparse-page (a .args .h) (a .args .c) _ (a .args .pages .now) (a .args .rows .now) bs (a .args .table .now) (a .args .r) (a .args .l) _ _ _ (c .before .before .before .before .before .before .before .before .before .before .fill-page .ensures) (c .before .before .before .before .before .before .free-row .ensures) (c .before .before .turn-entry .ensures))), omega (arith, a .pre .0 .sizes .p-high, c .before .before .before .before .before .before .before .before .before .before .before .before .before .if1 .left))
+returns-2 c = let a = c .before .before .before .before .before .before .before .before .before .before .before .before .before .before .before .before .before .before .before .before in ((λ bs. free-some (a .args .h) (mem (a .args .pages .now) (a .args .rows .now) bs (a .args .table .now)) (a .args .next) (a .args .c) (Sparse (a .args .r) (a .args .l)) _ _ (c .before .before .before .before .before .before .before .before .before .before .before .before .before .before .before .next-page .ensures) (c .before .before .before .before .before .before .before .before .before .before .before .before .before .if1 .left) _ (sparse-page (a .args .h) (a .args .c) _ (a .args .pages .now) (a .args .rows .now) bs (a .args .table .now) (a .args .r) (a .args .l) _ _ _ (c .before .before .before .before .before .before .before .before .before .before .fill-page .ensures) (c .before .before .before .before .before .before .free-row .ensures) (c .before .before .turn-entry .ensures))), omega (arith, a .pre .0 .sizes .p-high, c .before .before .before .before .before .before .before .before .before .before .before .before .before .if1 .left))
 
 pub sparse-to-spec : {M : Type 1} → statement M
 sparse-to-spec =
     tie.close
     (tie.spec
-    free-page-requires
+    next-page-requires
     same-length
     returns
     fill-page-requires
