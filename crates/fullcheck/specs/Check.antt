@@ -99,7 +99,7 @@ pageBlocks h pages blocks ranked p = allTo (blockIs (pagePart h pages p) blocks 
 -- what is left of the rule, by slice
 unfoldable pub tableRest : Header → List ℕ → Bool
 tableRest h t =
-    zeros t 9 7 && allTo (overSet t (16 + 2 * h .d)) (overCount t)
+    zeros t 9 7 && allTo (overSet t (directAt (h .d))) (overCount t)
     && zeros t (overAt h (overCount t)) (3 * (h .v - overCount t))
     && countsAre h t
 

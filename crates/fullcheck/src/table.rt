@@ -3,7 +3,7 @@ ghost use mathlib.Core.Path.{_≡_};
 ghost use Prim.Native.Nat.{_+_, _*_};
 ghost use Rattle.sums.specs.Rules.{allTo};
 ghost use Rattle.sums.specs.Ids.{count};
-ghost use Rattle.layout.specs.Sizes.{overCount};
+ghost use Rattle.layout.specs.Sizes.{directAt, overCount};
 ghost use Rattle.layout.specs.Entries.{entries};
 ghost use Rattle.fullcheck.specs.Check.{Sound, overSet, isKind, kindAt, countsAre, tableRest};
 use crate::zeros;
@@ -17,7 +17,7 @@ use numbers::place;
 // Sentence 7, of every overflow entry in use.
 pub fn words_set(table: &[u64], h: Header) -> bool
     requires { ⌜ Sound h (now table) ⌝ }
-    ensures { λ b. ⌜ b ≡ allTo (overSet (now (table .entry)) (16 + 2 * h .d)) (overCount (now (table .entry))) ⌝ }
+    ensures { λ b. ⌜ b ≡ allTo (overSet (now (table .entry)) (directAt (h .d))) (overCount (now (table .entry))) ⌝ }
 {
     let n = place::at(table, 7);
     let mut ok = true;
