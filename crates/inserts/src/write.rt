@@ -1,10 +1,11 @@
 // What a plan writes, a function for each slice or two.
 ghost use mathlib.Core.Path.{_≡_};
 ghost use mathlib.Core.List.{List};
+ghost use mathlib.Core.Bool.{not};
 ghost use Prim.Native.Nat.{ℕ, _+_, _*_, _^_, _≤_, _<_};
 ghost use lib.ListN.{length, getD, take, drop, replicate};
 ghost use Rattle.sparse.specs.Edit.{insertedAt};
-ghost use Rattle.dense.specs.Bits.{withBit, withRow};
+ghost use Rattle.dense.specs.Bits.{isSet, withBit, withRow};
 ghost use Rattle.layout.specs.Mem.{mem};
 ghost use Rattle.layout.specs.Sizes.{InRange, top, wide, headerAt, overCount};
 ghost use Rattle.layout.specs.Places.{encoded, rowPart, pagePart};
@@ -21,13 +22,13 @@ use numbers::place as element;
 use numbers::power;
 use steps::write;
 
-// A bit of a page of n words from a on.
-pub fn mark(pages: &mut [u64], a: usize, n: usize, o: u64)
+// A bit of a page of n words from a on, and whether it was clear.
+pub fn mark(pages: &mut [u64], a: usize, n: usize, o: u64) -> bool
     requires { ⌜ (a + n ≤ length (now pages)) × (o < 64 * n) ⌝ }
-    ensures { λ _. ⌜ now (pages .exit) ≡ putPart (now (pages .entry)) a n (withBit (take n (drop a (now (pages .entry)))) o) ⌝ }
+    ensures { λ b. ⌜ (b ≡ not (isSet (take n (drop a (now (pages .entry)))) o)) × (now (pages .exit) ≡ putPart (now (pages .entry)) a n (withBit (take n (drop a (now (pages .entry)))) o)) ⌝ }
 {
     let e = a + n;
-    dense::insert(&mut pages[a..e], o);
+    dense::insert(&mut pages[a..e], o)
 }
 
 // Chunk c's word: one write for a direct entry.
