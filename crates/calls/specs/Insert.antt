@@ -1,5 +1,5 @@
 -- `set_if_new` on any memory: a plan, and what it does.
-use Prim.Native.Nat.{ℕ, zero, suc, _+_, _-_, _/_}
+use Prim.Native.Nat.{ℕ, _+_, _-_, _/_}
 use mathlib.Core.List.{List}
 use mathlib.Core.Bool.{Bool, true, false, cond, not, _&&_}
 use lib.IntN.{ℤ}
@@ -17,6 +17,7 @@ use Rattle.layout.specs.Mem.{Mem, mem}
 use Rattle.layout.specs.Sizes.{top, head, modeAt, overCount}
 use Rattle.layout.specs.Places.{rowPart, pagePart, rowOwner, pageOwner}
 use Rattle.layout.specs.Short.{wordIn}
+unfoldable pub use Rattle.layout.specs.Free.{firstFree}
 use Rattle.layout.specs.Tests.{headIs}
 use Rattle.layout.specs.declared.head.Header.{Header}
 use Rattle.layout.specs.declared.place.Place.the-variants.{Sparse}
@@ -32,11 +33,7 @@ use Rattle.calls.specs.Reading.{shiftOk, spotBy, spotIf}
 use Rattle.calls.specs.declared.plan.Plan.{Plan}
 use Rattle.calls.specs.declared.plan.Plan.the-variants.{Refuse, Known, Mark, Enter, Begin, Turn}
 
--- the first of the k places from i whose owner is 0, else the one past them
-unfoldable pub firstFree : (ℕ → ℕ) → ℕ → ℕ → ℕ
-firstFree f i zero = i
-firstFree f i (suc k) = cond (eqb (f i) 0) i (firstFree f (suc i) k)
-
+-- the lowest free row and page
 abbrev pub freeRow : Mem → ℕ
 freeRow x = firstFree (rowOwner (head x) (x .table)) 0 (head x .r)
 

@@ -1,14 +1,15 @@
 -- A chunk's word: a turn of the search among overflow ids, and each way to a word. Assumes nothing.
 use mathlib.Core.Path.{_≡_, refl, sym, _∙_, ap, ap₂}
 use mathlib.Core.List.{List}
-use mathlib.Core.Bool.{Bool, true, false, cond, _&&_}
+use mathlib.Core.Bool.{Bool, true, false, cond, not, _&&_}
 use Prim.Native.Nat.{ℕ, zero, suc, _+_, _-_, _*_, _/_, _≤_, _<_}
 use native.Mathlib.Omega.{arith}
 use lib.ListN.{length, getD}
 use lib.Dec.{leb, ltb, eqb}
-use borrow.Author.Tests.{lt-ltb, le-ltb, le-leb, lt-leb, eq-eqb, ne-eqb}
+use borrow.Author.Tests.{lt-ltb, le-ltb, le-leb, lt-leb, leb-true, eq-eqb, ne-eqb, not-true, not-false}
+use Rattle.sums.proofs.Rules.{both}
 use Rattle.layout.specs.Sizes.{directAt, overCount}
-use Rattle.layout.specs.Short.{lowerKey, keyAt, overPlace, overWord, directWord, overflowWord, wordIn}
+use Rattle.layout.specs.Short.{lowerKey, keyAt, overPlace, overWord, entriesIn, directWord, overflowWord, wordIn}
 use Rattle.layout.specs.declared.find.Word.{Word}
 use Rattle.layout.specs.declared.find.Word.the-variants.{Is, Bad}
 
@@ -76,6 +77,28 @@ module _ (t : List ℕ) (a n c : ℕ) where
 
   pub halving-end : (lo hi : ℕ) → Halving t a n c lo hi → hi ≤ lo → (lo ≡ overPlace t a n c) × (lo ≤ n)
   halving-end lo hi h l = (sym (lower-end (keyAt t a) c (h .turns) lo hi l) ∙ h .same, omega (arith, h .order, h .inside))
+
+-- ---- whether the entries lie inside the table
+
+module _ (t : List ℕ) (d n : ℕ) (e : n ≡ overCount t) where
+  sized : Bool → Bool
+  sized b = b && leb (16 + 2 * d + 3 * overCount t) (length t)
+
+  small-is : (b : Bool) → (leb d 262144 && leb n 65536) ≡ b → sized b ≡ entriesIn t d
+  unfolding sized
+  small-is b h = ap sized (sym h ∙ ap (λ (k : ℕ). leb d 262144 && leb k 65536) e)
+
+  pub entries-no : not (leb d 262144 && leb n 65536) ≡ true → false ≡ entriesIn t d
+  unfolding sized
+  entries-no h = small-is false (not-true _ h)
+
+  module _ (h : not (leb d 262144 && leb n 65536) ≡ false) where
+    pub entries-rest : leb (16 + 2 * d + 3 * n) (length t) ≡ entriesIn t d
+    unfolding sized
+    entries-rest = ap (λ (k : ℕ). leb (16 + 2 * d + 3 * k) (length t)) e ∙ small-is true (not-false _ h)
+
+    pub entries-small : (d ≤ 262144) × (n ≤ 65536)
+    entries-small = let a = both (leb d 262144) (leb n 65536) (not-false _ h) in (leb-true d 262144 (a .0), leb-true n 65536 (a .1))
 
 -- ---- the word of an overflow entry
 

@@ -6,3 +6,5 @@ pub mod Finds
 pub mod Spots
 pub mod Fills
 pub mod SetUps
+pub mod Seats
+pub mod Free

@@ -21,8 +21,12 @@ chunkAt h t e = cond (ltb e (h .d)) e (getD t (overAt h (e - h .d)) 0)
 unfoldable pub wordAt : Header → List ℕ → ℕ → ℕ
 wordAt h t e = getD t (cond (ltb e (h .d)) (directAt e) (overAt h (e - h .d) + 1)) 0
 
+-- where the prefix stands
+abbrev pub prefixPlace : Header → ℕ → ℕ
+prefixPlace h e = cond (ltb e (h .d)) (directAt e + 1) (overAt h (e - h .d) + 2)
+
 unfoldable pub prefixAt : Header → List ℕ → ℕ → ℕ
-prefixAt h t e = getD t (cond (ltb e (h .d)) (directAt e + 1) (overAt h (e - h .d) + 2)) 0
+prefixAt h t e = getD t (prefixPlace h e) 0
 
 abbrev pub placeAt : Header → List ℕ → ℕ → Place
 placeAt h t e = decoded (wordAt h t e)

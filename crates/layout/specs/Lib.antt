@@ -7,3 +7,5 @@ pub mod Follows
 pub mod Tests
 pub mod SetUp
 pub mod Short
+pub mod Seat
+pub mod Free

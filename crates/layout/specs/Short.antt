@@ -35,10 +35,12 @@ overWord t a n c k = cond (ltb k n && eqb (keyAt t a k) c) (getD t (a + 3 * k + 
 abbrev pub directWord : List ℕ → ℕ → Word
 directWord t c = cond (ltb (directAt c) (length t)) (word.Is (getD t (directAt c) 0)) word.Bad
 
+-- the entries in use lie inside it
+abbrev pub entriesIn : List ℕ → ℕ → Bool
+entriesIn t d = leb d 262144 && leb (overCount t) 65536 && leb (16 + 2 * d + 3 * overCount t) (length t)
+
 abbrev pub overflowWord : List ℕ → ℕ → ℕ → Word
-overflowWord t d c =
-    cond (leb d 262144 && leb (overCount t) 65536 && leb (16 + 2 * d + 3 * overCount t) (length t))
-    (word.Is (overWord t (16 + 2 * d) (overCount t) c (overPlace t (16 + 2 * d) (overCount t) c))) word.Bad
+overflowWord t d c = cond (entriesIn t d) (word.Is (overWord t (16 + 2 * d) (overCount t) c (overPlace t (16 + 2 * d) (overCount t) c))) word.Bad
 
 unfoldable pub wordIn : List ℕ → ℕ → Word
 wordIn t c = cond (ltb c (getD t 2 0)) (directWord t c) (overflowWord t (getD t 2 0) c)

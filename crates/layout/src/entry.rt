@@ -1,7 +1,8 @@
 // The directory as one run of entries, and the owners of rows and pages.
 ghost use mathlib.Core.Path.{_≡_};
-ghost use Prim.Native.Nat.{_≤_};
-ghost use Rattle.layout.specs.Sizes.{InRange};
+ghost use Prim.Native.Nat.{_+_, _≤_};
+ghost use lib.ListN.{getD};
+ghost use Rattle.layout.specs.Sizes.{InRange, headerAt, overAt};
 ghost use Rattle.layout.specs.Places.{rowOwner, pageOwner};
 ghost use Rattle.layout.specs.Entries.{chunkAt, wordAt, prefixAt, placeAt};
 use crate::head::Header;
@@ -29,6 +30,26 @@ pub fn word_at(table: &[u64], h: Header, e: u64) -> u64
         return element::at(table, 16 + 2 * e);
     }
     element::at(table, 16 + 2 * h.d + 3 * (e - h.d) + 1)
+}
+
+// The word of overflow entry j.
+pub fn over_word(table: &[u64], h: Header, j: u64) -> u64
+    requires { ⌜ InRange h × (j ≤ 65536) ⌝ }
+    ensures { λ w. ⌜ w ≡ getD (now (table .entry)) (overAt h j + 1) 0 ⌝ }
+{
+    element::at(table, 16 + 2 * h.d + 3 * j + 1)
+}
+
+// The word of entry e by header word 2 alone.
+pub fn word_by(table: &[u64], e: u64) -> u64
+    requires { ⌜ (getD (now table) 2 0 ≤ 262144) × (e ≤ 327680) ⌝ }
+    ensures { λ w. ⌜ w ≡ wordAt (headerAt (now (table .entry))) (now (table .entry)) e ⌝ }
+{
+    let d = element::at(table, 2);
+    if e < d {
+        return element::at(table, 16 + 2 * e);
+    }
+    element::at(table, 16 + 2 * d + 3 * (e - d) + 1)
 }
 
 // The prefix of entry e.

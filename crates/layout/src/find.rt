@@ -1,7 +1,9 @@
 // The short test: what a call on one chunk looks at, on any memory.
 ghost use mathlib.Core.Path.{_≡_};
-ghost use Prim.Native.Nat.{_^_, _≤_, _<_};
-ghost use Rattle.layout.specs.Short.{overPlace, overWord, overflowWord, wordIn, spotOf};
+ghost use Prim.Native.Nat.{_+_, _*_, _^_, _≤_, _<_};
+ghost use Rattle.layout.specs.Sizes.{overCount};
+ghost use Rattle.layout.specs.Short.{overPlace, overWord, entriesIn, overflowWord, wordIn, spotOf};
+use crate::head::Header;
 use crate::place;
 use crate::place::Place;
 use numbers::place as element;
@@ -39,6 +41,14 @@ pub fn over_place(table: &[u64], a: u64, n: u64, c: u64) -> u64
     lo
 }
 
+// How many overflow ids are below c.
+pub fn over_below(table: &[u64], h: Header, c: u64) -> u64
+    requires { ⌜ (h .d ≤ 262144) × (overCount (now table) ≤ 65536) ⌝ }
+    ensures { λ k. ⌜ (k ≡ overPlace (now (table .entry)) (16 + 2 * h .d) (overCount (now (table .entry))) c) × (k ≤ overCount (now (table .entry))) ⌝ }
+{
+    over_place(table, 16 + 2 * h.d, element::at(table, 7), c)
+}
+
 // The word of overflow entry k where its id is c, else 0.
 pub fn over_word(table: &[u64], a: u64, n: u64, c: u64, k: u64) -> u64
     requires { ⌜ (a ≤ 1048576) × (k ≤ 65536) ⌝ }
@@ -51,6 +61,17 @@ pub fn over_word(table: &[u64], a: u64, n: u64, c: u64, k: u64) -> u64
         return 0;
     }
     element::at(table, a + 3 * k + 1)
+}
+
+// The entries in use, with d direct ones, lie inside the table.
+pub fn entries_in(table: &[u64], d: u64) -> bool
+    ensures { λ b. ⌜ b ≡ entriesIn (now (table .entry)) d ⌝ }
+{
+    let n = element::at(table, 7);
+    if !((d <= 262144) & (n <= 65536)) {
+        return false;
+    }
+    16 + 2 * d + 3 * n <= table.len() as u64
 }
 
 // The word of a chunk past the d direct entries.

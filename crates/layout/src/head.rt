@@ -1,7 +1,7 @@
 // The header's six sizes, the test of them, and where the parts of the pools start.
 ghost use mathlib.Core.Path.{_≡_};
-ghost use Prim.Native.Nat.{_*_, _≤_};
-ghost use Rattle.layout.specs.Sizes.{InRange, headerAt, wide, blocksOf};
+ghost use Prim.Native.Nat.{_*_, _-_, _≤_};
+ghost use Rattle.layout.specs.Sizes.{InRange, headerAt, wide, blocksOf, overAt, rowOwnersAt, pageOwnersAt};
 ghost use Rattle.layout.specs.Tests.{inRange, roomy};
 use numbers::place;
 use numbers::power;
@@ -41,6 +41,38 @@ pub fn in_range(h: Header) -> bool
         & (h.v <= 65536)
         & (h.r <= 65536)
         & (h.p <= 65536)
+}
+
+// Where overflow entry j starts.
+pub fn over_at(h: Header, j: u64) -> u64
+    requires { ⌜ InRange h × (j ≤ 65536) ⌝ }
+    ensures { λ a. ⌜ a ≡ overAt h j ⌝ }
+{
+    16 + 2 * h.d + 3 * j
+}
+
+// How many words the overflow entries from j on have.
+pub fn over_words(h: Header, j: u64) -> u64
+    requires { ⌜ InRange h × (j ≤ h .v) ⌝ }
+    ensures { λ n. ⌜ n ≡ 3 * (h .v - j) ⌝ }
+{
+    3 * (h.v - j)
+}
+
+// Where the owners of rows start.
+pub fn row_owners_at(h: Header) -> u64
+    requires { ⌜ InRange h ⌝ }
+    ensures { λ a. ⌜ a ≡ rowOwnersAt h ⌝ }
+{
+    16 + 2 * h.d + 3 * h.v
+}
+
+// Where the owners of pages start.
+pub fn page_owners_at(h: Header) -> u64
+    requires { ⌜ InRange h ⌝ }
+    ensures { λ a. ⌜ a ≡ pageOwnersAt h ⌝ }
+{
+    row_owners_at(h) + h.r
 }
 
 // Where row r starts.

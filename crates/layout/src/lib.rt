@@ -3,6 +3,8 @@ pub mod answer;
 pub mod entry;
 pub mod find;
 pub mod head;
+pub mod owners;
 pub mod place;
+pub mod seat;
 pub mod setup;
 pub mod walk;

@@ -9,7 +9,7 @@ use lib.ListN.{length, getD, set, length-set}
 use lib.Seq.{getD-set-same, getD-set-other, ext-getD}
 use lib.Dec.{ltb, eqb}
 use borrow.Author.Tests.{lt-ltb, le-ltb, le-leb, lt-leb, ltb-true, ltb-false}
-use Rattle.layout.specs.Sizes.{directAt, overAt, overCount}
+use Rattle.layout.specs.Sizes.{directAt, overAt, headerAt, overCount}
 use Rattle.layout.specs.Short.{overPlace}
 use Rattle.layout.specs.declared.head.Header.{Header}
 use Rattle.steps.specs.Writes.{added, addedIf, overPut, putWord}
@@ -182,3 +182,15 @@ module _ (h : Header) (t now : List ℕ) (c w : ℕ) where
       let e : k ≡ overPlace t (16 + 2 * h .d) (overCount t) c = k-is ∙ ap (λ (i : ℕ). overPlace t (16 + 2 * h .d) i c) n-is in
       q ∙ ap (overPut h t c w) e
       ∙ sym (ap (λ (b : Bool). cond b (set t (directAt c) w) (overPut h t c w (overPlace t (16 + 2 * h .d) (overCount t) c))) (le-ltb c (h .d) l))
+
+-- a word by the table's own header, of which d was read first
+
+module _ (t : List ℕ) (c d : ℕ) (e : d ≡ getD t 2 0) where
+  pub direct-put : (u : List ℕ) (w : ℕ) → c < d → u ≡ set t (16 + 2 * c) w → u ≡ putWord (headerAt t) t c w
+  direct-put u w l f = word-there (headerAt t) t u c w (omega (arith, e)) f
+
+  pub over-head : (h : Header) → h ≡ headerAt t → d ≤ c → (getD t 2 0 ≤ c → (getD t 2 0 ≤ 262144) × (overCount t ≤ 65536)) → (h .d ≤ 262144) × (h .d ≤ c → overCount t ≤ 65536)
+  over-head h f l g =
+      let k = g (omega (arith, e)) in
+      let i : h .d ≡ getD t 2 0 = ap (λ (n : Header). n .d) f in
+      (omega (arith, k .0), λ (m : h .d ≤ c). k .1)

@@ -7,3 +7,4 @@ pub mod Slots
 pub mod Rowed
 pub mod Paged
 pub mod Gaps
+pub mod Lent

@@ -5,6 +5,7 @@ use mathlib.Core.Bool.{cond, _&&_}
 use lib.ListN.{length, getD, set, take, drop}
 use lib.Dec.{leb, ltb, eqb}
 use Rattle.layout.specs.Sizes.{directAt, overAt, rowOwnersAt, pageOwnersAt, overCount}
+use Rattle.layout.specs.Entries.{prefixPlace}
 use Rattle.layout.specs.Short.{overPlace}
 use Rattle.layout.specs.declared.head.Header.{Header}
 
@@ -29,6 +30,10 @@ overPut h t c w k = cond (ltb k (overCount t) && eqb (getD t (overAt h k) 0) c) 
 -- the table with w as chunk c's word
 unfoldable pub putWord : Header → List ℕ → ℕ → ℕ → List ℕ
 putWord h t c w = cond (ltb c (h .d)) (set t (directAt c) w) (overPut h t c w (overPlace t (16 + 2 * h .d) (overCount t) c))
+
+-- v as the prefix of entry e
+abbrev pub putPrefix : Header → List ℕ → ℕ → ℕ → List ℕ
+putPrefix h t e v = set t (prefixPlace h e) v
 
 abbrev pub putRowOwner : Header → List ℕ → ℕ → ℕ → List ℕ
 putRowOwner h t r w = set t (rowOwnersAt h + r) w

@@ -1,2 +1,3 @@
 // Writes to the table, which every writing call is made of.
+pub mod turn;
 pub mod write;

@@ -1,10 +1,11 @@
-// A chunk's word and the owners of rows and pages, written to the table.
+// A chunk's word, the prefixes and the owners of rows and pages, written to the table.
 ghost use mathlib.Core.Path.{_≡_};
-ghost use Prim.Native.Nat.{_+_, _≤_};
-ghost use lib.ListN.{length};
-ghost use Rattle.layout.specs.Sizes.{InRange, overAt, overCount};
-ghost use Rattle.steps.specs.Writes.{added, overPut, putWord, putRowOwner, putPageOwner};
+ghost use Prim.Native.Nat.{_+_, _^_, _≤_, _<_};
+ghost use lib.ListN.{length, getD};
+ghost use Rattle.layout.specs.Sizes.{InRange, headerAt, overAt, overCount};
+ghost use Rattle.steps.specs.Writes.{added, overPut, putWord, putPrefix, putRowOwner, putPageOwner};
 use layout::find;
+use layout::head;
 use layout::head::Header;
 use numbers::place as element;
 
@@ -54,6 +55,31 @@ pub fn put_word(table: &mut [u64], h: Header, c: u64, w: u64)
     }
     let k = find::over_place(table, 16 + 2 * h.d, element::at(table, 7), c);
     put_over(table, h, c, w, k);
+}
+
+// The same by the table's own header, of which a direct entry needs word 2 alone.
+pub fn set_word(table: &mut [u64], c: u64, w: u64)
+    requires { ⌜ (c < 2 ^ 62) × (getD (now table) 2 0 ≤ c → (getD (now table) 2 0 ≤ 262144) × (overCount (now table) ≤ 65536)) ⌝ }
+    ensures { λ _. ⌜ now (table .exit) ≡ putWord (headerAt (now (table .entry))) (now (table .entry)) c w ⌝ }
+{
+    if c < element::at(table, 2) {
+        element::put(table, 16 + 2 * c, w);
+        return;
+    }
+    let h = head::read(table);
+    put_word(table, h, c, w);
+}
+
+// The prefix of entry e.
+pub fn put_prefix(table: &mut [u64], h: Header, e: u64, v: u64)
+    requires { ⌜ InRange h × (e ≤ 327680) ⌝ }
+    ensures { λ _. ⌜ now (table .exit) ≡ putPrefix h (now (table .entry)) e v ⌝ }
+{
+    if e < h.d {
+        element::put(table, 16 + 2 * e + 1, v);
+    } else {
+        element::put(table, 16 + 2 * h.d + 3 * (e - h.d) + 2, v);
+    }
 }
 
 // The owner of row r: a chunk id plus 1, or 0 for a free one.

@@ -1,0 +1,85 @@
+-- A lookup, way by way. Assumes nothing.
+use mathlib.Core.Path.{_≡_, sym, ap, ap₂, _∙_}
+use mathlib.Core.List.{List}
+use mathlib.Core.Bool.{Bool, true, false, cond, _&&_}
+use Prim.Native.Nat.{ℕ, _+_, _*_, _≤_, _<_}
+use native.Mathlib.Omega.{arith}
+use lib.ListN.{length, getD}
+use lib.Dec.{leb, eqb}
+use borrow.Author.Tests.{lt-ltb, le-ltb, le-leb, lt-leb}
+use Rattle.layout.specs.Sizes.{directAt, overCount, totalAt}
+use Rattle.layout.specs.Short.{keyAt, overPlace, overWord}
+use Rattle.layout.specs.Seat.{directSeat, overSeat, overflowSeat, seatIn}
+use Rattle.layout.specs.declared.seat.Seat.{Seat}
+use Rattle.layout.specs.declared.seat.Seat.the-variants.{At, Bad}
+
+-- ---- an overflow entry
+
+module _ (t : List ℕ) (a n c k : ℕ) where
+  own : Bool → ℕ
+  own b = cond (b && eqb (keyAt t a k) c) (getD t (a + 3 * k + 1) 0) 0
+
+  by-place : Bool → Seat
+  by-place b = cond b (At (cond (eqb (keyAt t a k) c) (getD t (a + 3 * k + 1) 0) 0) (getD t (a + 3 * k + 2) 0)) (At 0 (totalAt t))
+
+  pub seat-past : n ≤ k → (v : ℕ) → v ≡ totalAt t → At 0 v ≡ overSeat t a n c k
+  unfolding by-place
+  seat-past l v e = ap (At 0) e ∙ ap by-place (sym (le-ltb k n l))
+
+  pub seat-there : k < n → (w v : ℕ) → w ≡ overWord t a n c k → v ≡ getD t (a + 3 * k + 2) 0 → At w v ≡ overSeat t a n c k
+  unfolding by-place own
+  seat-there l w v e f = ap₂ At (e ∙ ap own (lt-ltb k n l)) f ∙ ap by-place (sym (lt-ltb k n l))
+
+-- ---- a chunk past the direct entries
+
+module _ (t : List ℕ) (d c n : ℕ) (e : n ≡ overCount t) where
+  by-tests : Bool → Bool → Bool → Seat
+  by-tests f g h = cond (f && g && h) (overSeat t (16 + 2 * d) (overCount t) c (overPlace t (16 + 2 * d) (overCount t) c)) Bad
+
+  pub many-direct : 262144 < d → Bad ≡ overflowSeat t d c
+  unfolding by-tests
+  many-direct l = ap (λ (f : Bool). by-tests f (leb (overCount t) 65536) (leb (16 + 2 * d + 3 * overCount t) (length t))) (sym (lt-leb d 262144 l))
+
+  module _ (l : d ≤ 262144) where
+    pub many-over : 65536 < n → Bad ≡ overflowSeat t d c
+    unfolding by-tests
+    many-over g = ap₂ (λ (f b : Bool). by-tests f b (leb (16 + 2 * d + 3 * overCount t) (length t))) (sym (le-leb d 262144 l)) (sym (lt-leb (overCount t) 65536 (omega (arith, e))))
+
+    module _ (g : n ≤ 65536) where
+      most : (b : Bool) → leb (16 + 2 * d + 3 * overCount t) (length t) ≡ b → by-tests true true b ≡ overflowSeat t d c
+      unfolding by-tests
+      most b q =
+          ap (by-tests true true) (sym q)
+          ∙ ap₂ (λ (f h : Bool). by-tests f h (leb (16 + 2 * d + 3 * overCount t) (length t))) (sym (le-leb d 262144 l)) (sym (le-leb (overCount t) 65536 (omega (arith, e))))
+
+      pub short-table : length t < 16 + 2 * d + 3 * n → Bad ≡ overflowSeat t d c
+      unfolding by-tests
+      short-table i = most false (lt-leb (16 + 2 * d + 3 * overCount t) (length t) (omega (arith, e)))
+
+      pub long-table : 16 + 2 * d + 3 * n ≤ length t → (k : ℕ) (q : Seat) → k ≡ overPlace t (16 + 2 * d) n c → q ≡ overSeat t (16 + 2 * d) n c k → q ≡ overflowSeat t d c
+      unfolding by-tests
+      long-table i k q ek eq =
+          eq
+          ∙ (ap (overSeat t (16 + 2 * d) n c) ek
+          ∙ (ap (λ (j : ℕ). overSeat t (16 + 2 * d) j c (overPlace t (16 + 2 * d) j c)) e ∙ most true (le-leb (16 + 2 * d + 3 * overCount t) (length t) (omega (arith, e)))))
+
+-- ---- any chunk
+
+module _ (t : List ℕ) (c d : ℕ) (e : d ≡ getD t 2 0) where
+  by-direct : Bool → Seat
+  by-direct b = cond b (directSeat t c) (overflowSeat t (getD t 2 0) c)
+
+  pub in-overflow : d ≤ c → (q : Seat) → q ≡ overflowSeat t d c → q ≡ seatIn t c
+  unfolding seatIn by-direct
+  in-overflow l q f = f ∙ (ap (λ (i : ℕ). overflowSeat t i c) e ∙ ap by-direct (sym (le-ltb c (getD t 2 0) (omega (arith, e)))))
+
+  module _ (l : c < d) where
+    direct : directSeat t c ≡ seatIn t c
+    unfolding seatIn by-direct
+    direct = ap by-direct (sym (lt-ltb c (getD t 2 0) (omega (arith, e))))
+
+    pub in-table : directAt c + 1 < length t → At (getD t (directAt c) 0) (getD t (directAt c + 1) 0) ≡ seatIn t c
+    in-table g = ap (λ (b : Bool). cond b (At (getD t (directAt c) 0) (getD t (directAt c + 1) 0)) Bad) (sym (lt-ltb (directAt c + 1) (length t) g)) ∙ direct
+
+    pub past-table : length t ≤ directAt c + 1 → Bad ≡ seatIn t c
+    past-table g = ap (λ (b : Bool). cond b (At (getD t (directAt c) 0) (getD t (directAt c + 1) 0)) Bad) (sym (le-ltb (directAt c + 1) (length t) g)) ∙ direct

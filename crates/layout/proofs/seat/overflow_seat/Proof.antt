@@ -1,0 +1,54 @@
+-- Each way through is one of the laws on the search past the direct entries. Assumes nothing.
+use Rattle.layout.proofs.Seats.{many-direct, many-over, short-table, long-table}
+use borrow.Author.Needs.{needs}
+use Rattle.layout.proofs.seat.overflow_seat.Statement.{statement}
+use Rattle.layout.proofs.seat.overflow_seat.Tie as tie
+
+at-requires : tie.Need-at-requires
+at-requires c κs = search needs
+
+returns : tie.Need-returns
+returns c = let a = c .before .before .before .args in many-direct (a .table .now) (a .d) (a .c) _ (c .before .at .ensures) (c .if1 .taken)
+
+returns-2 : tie.Need-returns-2
+returns-2 c = let a = c .before .before .before .before .args in many-over (a .table .now) (a .d) (a .c) _ (c .before .before .at .ensures) (c .before .if1 .left) (c .if2 .taken)
+
+mul-a : tie.Need-mul-a
+mul-a c = search needs
+
+add-a : tie.Need-add-a
+add-a c = search needs
+
+mul-if3 : tie.Need-mul-if3
+mul-if3 c = search needs
+
+add-if3 : tie.Need-add-if3
+add-if3 c = search needs
+
+returns-3 : tie.Need-returns-3
+returns-3 c = let a = c .before .before .before .before .before .args in short-table (a .table .now) (a .d) (a .c) _ (c .before .before .before .at .ensures) (c .before .before .if1 .left) (c .before .if2 .left) (c .if3 .taken)
+
+over-place-requires : tie.Need-over-place-requires
+over-place-requires c κs = search needs
+
+over-seat-requires : tie.Need-over-seat-requires
+over-seat-requires c κs = search needs
+
+returns-4 : tie.Need-returns-4
+returns-4 c = let a = c .before .before .before .before .before .before .before .args in long-table (a .table .now) (a .d) (a .c) _ (c .before .before .before .before .before .at .ensures) (c .before .before .before .before .if1 .left) (c .before .before .before .if2 .left) (c .before .before .if3 .left) _ _ (c .before .over-place .ensures .0) (c .over-seat .ensures)
+
+pub overflow-seat-spec : {M : Type 1} → statement M
+overflow-seat-spec =
+    tie.close
+    (tie.spec
+    at-requires
+    returns
+    returns-2
+    mul-a
+    add-a
+    mul-if3
+    add-if3
+    returns-3
+    over-place-requires
+    over-seat-requires
+    returns-4)

@@ -1,0 +1,61 @@
+// A chunk's word and the members of the chunks before it, on any table.
+ghost use mathlib.Core.Path.{_≡_};
+ghost use Prim.Native.Nat.{_^_, _≤_, _<_};
+ghost use Rattle.layout.specs.Seat.{overSeat, overflowSeat, seatIn};
+use crate::find;
+use numbers::place as element;
+
+// A chunk's word and the members of the chunks before it, or a table that is too short to say.
+pub enum Seat {
+    At(u64, u64),
+    Bad,
+}
+
+// Overflow entry k of n: past the last one come no members.
+pub fn over_seat(table: &[u64], a: u64, n: u64, c: u64, k: u64) -> Seat
+    requires { ⌜ (a ≤ 1048576) × (k ≤ 65536) ⌝ }
+    ensures { λ q. ⌜ q ≡ overSeat (now (table .entry)) a n c k ⌝ }
+{
+    if n <= k {
+        return Seat::At(0, element::at(table, 8));
+    }
+    Seat::At(
+        find::over_word(table, a, n, c, k),
+        element::at(table, a + 3 * k + 2),
+    )
+}
+
+// A chunk past the d direct entries.
+pub fn overflow_seat(table: &[u64], d: u64, c: u64) -> Seat
+    ensures { λ q. ⌜ q ≡ overflowSeat (now (table .entry)) d c ⌝ }
+{
+    let n = element::at(table, 7);
+    if 262144 < d {
+        return Seat::Bad;
+    }
+    if 65536 < n {
+        return Seat::Bad;
+    }
+    let a = 16 + 2 * d;
+    if (table.len() as u64) < a + 3 * n {
+        return Seat::Bad;
+    }
+    over_seat(table, a, n, c, find::over_place(table, a, n, c))
+}
+
+// Chunk c: an entry and its prefix side by side, a search past the direct ones.
+pub fn seat_of(table: &[u64], c: u64) -> Seat
+    requires { ⌜ c < 2 ^ 62 ⌝ }
+    ensures { λ q. ⌜ q ≡ seatIn (now (table .entry)) c ⌝ }
+{
+    let d = element::at(table, 2);
+    if d <= c {
+        return overflow_seat(table, d, c);
+    }
+    let i = (16 + 2 * c) as usize;
+    let j = i + 1;
+    if j < table.len() {
+        return Seat::At(table[i], table[j]);
+    }
+    Seat::Bad
+}
