@@ -1,17 +1,16 @@
 -- The plans of inserts into absent and sparse chunks, way by way. Assumes nothing.
 use mathlib.Core.Path.{_≡_, sym, _∙_, ap, ap₂}
-use mathlib.Core.List.{List}
 use mathlib.Core.Bool.{Bool, true, false, cond, not, _&&_}
-use Prim.Native.Nat.{ℕ, _+_, _-_, _*_, _/_, _≤_, _<_}
-use native.Mathlib.Omega.{arith}
-use lib.Dec.{leb, ltb, eqb}
-use lib.ListN.{length, getD, take, drop}
+use Prim.Native.Nat.{ℕ, _+_, _-_, _/_, _≤_, _<_}
+use lib.Dec.{leb, ltb}
+use lib.ListN.{take, drop}
 use borrow.Author.Tests.{lt-ltb, le-ltb, not-true, not-false}
 use Rattle.sparse.specs.Search.{spotIn}
 use Rattle.sparse.specs.declared.Place.{Place}
 use Rattle.sparse.specs.declared.Place.the-variants.{Found, Free}
 use Rattle.layout.specs.Mem.{Mem}
-use Rattle.layout.specs.Sizes.{InRange, head, overCount}
+use Rattle.layout.specs.Sizes.{head, overCount}
+use Rattle.layout.specs.Places.{rowOwner, pageOwner}
 use Rattle.layout.specs.Tests.{headIs}
 use Rattle.layout.proofs.Tests.{HeadIs, head-of}
 use Rattle.layout.specs.declared.head.Header.{Header}
@@ -52,9 +51,9 @@ module _ (x : Mem) (h : Header) (e : h ≡ head x) (b : Bool) (f : b ≡ headIs 
       pub begin-six : (leb (h .d) c && leb (h .v) n) ≡ true → Refuse 6 ≡ planBegin x c (freeRow x)
       begin-six k = begun true k
 
-      module _ (k : (leb (h .d) c && leb (h .v) n) ≡ false) (r : ℕ) (er : r ≡ firstFree (λ (i : ℕ). getD (x .table) (16 + 2 * h .d + 3 * h .v + i) 0) 0 (h .r)) where
+      module _ (k : (leb (h .d) c && leb (h .v) n) ≡ false) (r : ℕ) (er : r ≡ firstFree (rowOwner h (x .table)) 0 (h .r)) where
         row-is : r ≡ freeRow x
-        row-is = er ∙ ap (λ (k : Header). firstFree (λ (i : ℕ). getD (x .table) (16 + 2 * k .d + 3 * k .v + i) 0) 0 (k .r)) e
+        row-is = er ∙ ap (λ (k : Header). firstFree (rowOwner k (x .table)) 0 (k .r)) e
 
         fits : ltb (freeRow x) (head x .r) ≡ ltb r (h .r)
         fits = ap₂ (λ (i : ℕ) (k : Header). ltb i (k .r)) (sym row-is) (sym e)
@@ -78,9 +77,9 @@ module _ (x : Mem) (h : Header) (e : h ≡ head x) (b : Bool) (f : b ≡ headIs 
       pub turn-out : h .r ≤ r → Refuse 3 ≡ planTurn x r l (freePage x)
       turn-out m = there false (le-ltb r (h .r) m)
 
-      module _ (m : r < h .r) (p : ℕ) (ep : p ≡ firstFree (λ (i : ℕ). getD (x .table) (16 + 2 * h .d + 3 * h .v + h .r + i) 0) 0 (h .p)) where
+      module _ (m : r < h .r) (p : ℕ) (ep : p ≡ firstFree (pageOwner h (x .table)) 0 (h .p)) where
         page-is : p ≡ freePage x
-        page-is = ep ∙ ap (λ (k : Header). firstFree (λ (i : ℕ). getD (x .table) (16 + 2 * k .d + 3 * k .v + k .r + i) 0) 0 (k .p)) e
+        page-is = ep ∙ ap (λ (k : Header). firstFree (pageOwner k (x .table)) 0 (k .p)) e
 
         fit : ltb (freePage x) (head x .p) ≡ ltb p (h .p)
         fit = ap₂ (λ (i : ℕ) (k : Header). ltb i (k .p)) (sym page-is) (sym e)
@@ -93,10 +92,6 @@ module _ (x : Mem) (h : Header) (e : h ≡ head x) (b : Bool) (f : b ≡ headIs 
 
         pub turn-eight : h .p ≤ p → Refuse 8 ≡ planTurn x r l (freePage x)
         turn-eight i = ap (λ (t : Bool). turns true true t r l (freePage x)) (sym (fit ∙ le-ltb p (h .p) i)) ∙ there true (lt-ltb r (h .r) m)
-
--- where the owners begin
-pub owners-at : (h : Header) → InRange h → (16 + 2 * h .d + 3 * h .v ≤ 1048576) × (16 + 2 * h .d + 3 * h .v + h .r ≤ 1048576) × (h .r ≤ 65536) × (h .p ≤ 65536)
-owners-at h i = (omega arith, omega arith, i .r-high, i .p-high)
 
 -- ---- into a row
 

@@ -17,14 +17,11 @@ use Rattle.layout.specs.Mem.{Mem}
 use Rattle.layout.specs.Sizes.{head, overCount}
 use Rattle.layout.specs.Short.{directWord, overflowWord, overWord, overPlace, wordIn}
 use Rattle.layout.specs.Tests.{headIs}
-use Rattle.layout.proofs.Tests.{HeadIs, head-of}
-use Rattle.layout.specs.declared.find.Word.{Word}
+use Rattle.layout.proofs.Tests.{head-of}
 use Rattle.layout.specs.declared.find.Word.the-variants as word
-use Rattle.layout.specs.declared.find.Spot.{Spot}
 use Rattle.layout.specs.declared.find.Spot.the-variants.{Row, Page}
 use Rattle.calls.specs.Reading.{spotBy}
 use Rattle.calls.specs.Insert.{freeRow, freePage, planBegin, planTurn, planRow}
-use Rattle.calls.specs.declared.plan.Plan.{Plan}
 use Rattle.calls.specs.declared.plan.Plan.the-variants.{Refuse, Enter, Begin, Turn}
 use Rattle.idset.proofs.Spots.{InRows, spot-row, spot-page, spot-sparse}
 use Rattle.insert_plan.specs.Ready.{Reached, Ready}

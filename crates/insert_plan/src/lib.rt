@@ -1,30 +1,16 @@
 // What an insert into an absent or a sparse chunk is to do, found before anything is written. Only what is touched is tested.
 ghost use mathlib.Core.Path.{_≡_};
-ghost use Prim.Native.Nat.{ℕ, _+_, _*_, _^_, _≤_, _<_};
-ghost use lib.ListN.{length, getD, take, drop};
+ghost use Prim.Native.Nat.{_+_, _^_, _≤_, _<_};
+ghost use lib.ListN.{length, take, drop};
 ghost use Rattle.sparse.specs.Search.{spotIn};
 ghost use Rattle.layout.specs.Mem.{memOf};
-ghost use Rattle.calls.specs.Insert.{firstFree, freeRow, freePage, planBegin, planTurn, planRow};
+ghost use Rattle.calls.specs.Insert.{freeRow, freePage, planBegin, planTurn, planRow};
 use calls::plan::Plan;
 use layout::head;
+use layout::owners;
 use layout::walk;
 use numbers::place as element;
 use sparse::Place;
-
-// The first of the k owners from `at` on that is 0, else k: the lowest free row or page.
-pub fn first_free(table: &[u64], at: u64, k: u64) -> u64
-    requires { ⌜ (at ≤ 1048576) × (k ≤ 65536) ⌝ }
-    ensures { λ r. ⌜ r ≡ firstFree (λ (i : ℕ). getD (now (table .entry)) (at + i) 0) 0 k ⌝ }
-{
-    let mut i: u64 = 0;
-    while i < k {
-        if element::at(table, at + i) == 0 {
-            return i;
-        }
-        i += 1;
-    }
-    i
-}
 
 // A new sparse chunk: 6 where it needs an overflow entry and none is left, then 7 where no row is free.
 pub fn begin(pages: &[u64], rows: &[u32], blocks: &[u32], table: &[u64], c: u64) -> Plan
@@ -38,7 +24,7 @@ pub fn begin(pages: &[u64], rows: &[u32], blocks: &[u32], table: &[u64], c: u64)
     if (h.d <= c) & (h.v <= n) {
         return Plan::Refuse(6);
     }
-    let r = first_free(table, 16 + 2 * h.d + 3 * h.v, h.r);
+    let r = owners::free_row(table, h);
     if r < h.r {
         return Plan::Begin(r);
     }
@@ -56,7 +42,7 @@ pub fn turn(pages: &[u64], rows: &[u32], blocks: &[u32], table: &[u64], r: u64, 
     if h.r <= r {
         return Plan::Refuse(3);
     }
-    let p = first_free(table, 16 + 2 * h.d + 3 * h.v + h.r, h.p);
+    let p = owners::free_page(table, h);
     if p < h.p {
         return Plan::Turn(r, l, p);
     }

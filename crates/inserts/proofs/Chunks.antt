@@ -1,5 +1,5 @@
 -- Which plan an insert into a chunk makes, by the chunk's word and the part that it names. Assumes nothing.
-use mathlib.Core.Path.{_≡_, refl, sym, _∙_, ap, ap₂}
+use mathlib.Core.Path.{_≡_, sym, _∙_, ap, ap₂}
 use mathlib.Core.List.{List}
 use mathlib.Core.Bool.{Bool, not}
 use Prim.Native.Nat.{ℕ}
@@ -15,8 +15,6 @@ use Rattle.layout.specs.declared.find.Spot.the-variants.{Page}
 use Rattle.steps.specs.Writes.{putPart}
 use Rattle.calls.specs.Reading.{spotBy, spotIf}
 use Rattle.calls.specs.Insert.{planSpot, planWord, preparedSpot, told}
-use Rattle.calls.specs.declared.plan.Plan.{Plan}
-use Rattle.calls.specs.declared.plan.Plan.the-variants.{Refuse}
 use Rattle.inserts.specs.Ways.{acted}
 use Rattle.inserts.proofs.Marks.{page-marked}
 

@@ -2,7 +2,7 @@
 use mathlib.Core.Path.{_≡_, refl, sym, _∙_, ap, ap₂}
 use mathlib.Core.List.{List}
 use mathlib.Core.Bool.{Bool, true, false, cond, not, _&&_}
-use Prim.Native.Nat.{ℕ, _≤_}
+use Prim.Native.Nat.{ℕ}
 use native.Mathlib.Omega.{arith}
 use lib.Dec.{leb, eqb}
 use lib.IntN.{ℤ}
@@ -15,7 +15,7 @@ use Rattle.sums.proofs.Rules.{both}
 use Rattle.layout.specs.Mem.{Mem}
 use Rattle.layout.specs.Sizes.{modeAt}
 use Rattle.layout.specs.Short.{wordIn}
-use Rattle.layout.specs.SetUp.{Did, did}
+use Rattle.layout.specs.SetUp.{did}
 use Rattle.layout.specs.declared.answer.Outcome.{Outcome}
 use Rattle.layout.specs.declared.answer.Truth.{Truth}
 use Rattle.layout.specs.declared.answer.Truth.the-variants as truth

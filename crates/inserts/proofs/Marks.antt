@@ -2,7 +2,7 @@
 use mathlib.Core.Path.{_≡_, refl, sym, _∙_, ap, ap₂}
 use mathlib.Core.List.{List, _++_}
 use mathlib.Core.Bool.{Bool, true, false, cond, not}
-use Prim.Native.Nat.{ℕ, _+_, _*_, _/_, _%_, _^_, _<_}
+use Prim.Native.Nat.{ℕ, _+_, _*_, _/_, _%_, _^_}
 use native.Mathlib.Nat.{div-add-mod', mod-lt}
 use native.Mathlib.Omega.{arith}
 use lib.Bits.{bitOr, or-step, or-zero-r, or-block}
@@ -11,7 +11,7 @@ use lib.Pow.{pow-pos}
 use lib.Seq.{drop-drop, set-getD}
 use Rattle.dense.specs.Bits.{digit, bit, isSet, withBit}
 use Rattle.dense.proofs.Bits.{isSet-one}
-use Rattle.layout.specs.Mem.{Mem, mem}
+use Rattle.layout.specs.Mem.{mem}
 use Rattle.layout.specs.declared.answer.Truth.the-variants as truth
 use Rattle.steps.specs.Writes.{putPart}
 use Rattle.calls.specs.Insert.{told}

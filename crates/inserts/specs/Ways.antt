@@ -1,13 +1,10 @@
 -- The ways that an insert goes: the short one into a dense chunk with a direct entry, and the whole one.
 use mathlib.Core.Path.{_≡_}
-use mathlib.Core.List.{List}
 use Prim.Native.Nat.{ℕ}
 use lib.IntN.{ℤ}
 use Rattle.layout.specs.Mem.{Mem}
 use Rattle.layout.specs.Short.{wordIn}
 use Rattle.layout.specs.declared.answer.Truth.the-variants as truth
-use Rattle.layout.specs.declared.find.Word.{Word}
-use Rattle.layout.specs.declared.find.Word.the-variants as word
 use Rattle.calls.specs.Reading.{spotIf}
 use Rattle.calls.specs.Insert.{planWord, preparedSpot, actBy, answerOf, Told, told, insertBy, preparedBy}
 use Rattle.calls.specs.declared.plan.Plan.{Plan}
@@ -17,11 +14,6 @@ use Rattle.inserts.specs.declared.direct.Direct.the-variants.{Is, Elsewh
 -- what a plan answers, and memory after it
 abbrev pub acted : Mem → ℕ → ℕ → Plan → Told
 acted x c o q = told (answerOf q) (actBy x c o q)
-
--- a word that was read at a direct entry is the chunk's
-abbrev pub Read : List ℕ → ℕ → Word → Type 0
-Read t c (word.Is w) = word.Is w ≡ wordIn t c
-Read t c word.Bad = Unit
 
 -- an offset of a chunk: all that either insert does, or nothing
 unfoldable pub Into : Mem → ℕ → ℕ → Direct → Mem → Type 0

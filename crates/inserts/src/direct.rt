@@ -3,7 +3,7 @@ ghost use mathlib.Core.Path.{_≡_};
 ghost use Prim.Native.Nat.{_^_, _≤_, _<_};
 ghost use lib.ListN.{getD};
 ghost use Rattle.layout.specs.Mem.{memOf};
-ghost use Rattle.inserts.specs.Ways.{Read, Into, Short};
+ghost use Rattle.inserts.specs.Ways.{Into, Short};
 use crate::gate;
 use crate::write;
 use layout::find;
@@ -19,22 +19,7 @@ pub enum Direct {
     Elsewhere,
 }
 
-// The word of chunk c's direct entry; none where it has no such entry.
-pub fn word(table: &[u64], c: u64) -> Word
-    requires { ⌜ c < 2 ^ 62 ⌝ }
-    ensures { λ w. ⌜ Read (now (table .entry)) c w ⌝ }
-{
-    if element::at(table, 2) <= c {
-        return Word::Bad;
-    }
-    let i = (16 + 2 * c) as usize;
-    if i < table.len() {
-        return Word::Is(table[i]);
-    }
-    Word::Bad
-}
-
-// Offset o of chunk c.
+// Offset o of chunk c. The first test leaves the search past the direct entries to the whole way.
 pub fn into(
     pages: &mut [u64],
     rows: &[u32],
@@ -47,7 +32,10 @@ pub fn into(
     requires { ⌜ (9 ≤ s) × (s ≤ 25) × (s ≡ getD (now table) 0 0) × (c < 2 ^ 62) × (o < 2 ^ s) ⌝ }
     ensures { λ r. ⌜ Into (memOf (pages .entry) (rows .entry) (blocks .entry) (table .entry)) c o r (memOf (pages .exit) (rows .entry) (blocks .entry) (table .entry)) ⌝ }
 {
-    let Word::Is(w) = word(table, c) else {
+    if element::at(table, 2) <= c {
+        return Direct::Elsewhere;
+    }
+    let Word::Is(w) = find::word_of(table, c) else {
         return Direct::Elsewhere;
     };
     let Spot::Page(a, n) = find::spot_of(

@@ -1,6 +1,6 @@
 -- Of an open set, and an id that is not negative. Assumes nothing.
 use mathlib.Core.Path.{_≡_}
-use Prim.Native.Nat.{ℕ, _^_, _<_}
+use Prim.Native.Nat.{_^_, _<_}
 use Rattle.numbers.specs.Ids.{splitOf}
 use Rattle.numbers.specs.declared.Split.the-variants as split
 use Rattle.layout.specs.Mem.{Mem, memOf}

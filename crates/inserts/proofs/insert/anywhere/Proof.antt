@@ -1,6 +1,6 @@
 -- 3 and 4 first, then the chunk. Assumes nothing.
 use mathlib.Core.Path.{_≡_, refl, _∙_}
-use Prim.Native.Nat.{ℕ, _^_, _<_}
+use Prim.Native.Nat.{_^_, _<_}
 use Rattle.numbers.specs.Ids.{splitOf}
 use Rattle.numbers.specs.declared.Split.the-variants as split
 use Rattle.layout.specs.Mem.{Mem, memOf}
