@@ -1,3 +1,2 @@
-pub mod Frees
 pub mod Plans
 pub mod Readies

@@ -1,29 +1,22 @@
--- The plan of an insert, way by way. Assumes nothing.
+-- The plans of inserts into absent and sparse chunks, way by way. Assumes nothing.
 use mathlib.Core.Path.{_≡_, sym, _∙_, ap, ap₂}
-use mathlib.Core.List.{List}
 use mathlib.Core.Bool.{Bool, true, false, cond, not, _&&_}
-use Prim.Native.Nat.{ℕ, _+_, _-_, _*_, _/_, _≤_, _<_}
-use native.Mathlib.Omega.{arith}
-use lib.Dec.{leb, ltb, eqb}
-use lib.ListN.{length, getD, take, drop}
+use Prim.Native.Nat.{ℕ, _+_, _-_, _/_, _≤_, _<_}
+use lib.Dec.{leb, ltb}
+use lib.ListN.{take, drop}
 use borrow.Author.Tests.{lt-ltb, le-ltb, not-true, not-false}
 use Rattle.sparse.specs.Search.{spotIn}
 use Rattle.sparse.specs.declared.Place.{Place}
 use Rattle.sparse.specs.declared.Place.the-variants.{Found, Free}
-use Rattle.dense.specs.Bits.{isSet}
 use Rattle.layout.specs.Mem.{Mem}
-use Rattle.layout.specs.Sizes.{InRange, head, overCount}
-use Rattle.layout.specs.Short.{spotOf, wordIn}
+use Rattle.layout.specs.Sizes.{head, overCount}
+use Rattle.layout.specs.Places.{rowOwner, pageOwner}
 use Rattle.layout.specs.Tests.{headIs}
 use Rattle.layout.proofs.Tests.{HeadIs, head-of}
 use Rattle.layout.specs.declared.head.Header.{Header}
-use Rattle.layout.specs.declared.find.Word.{Word}
-use Rattle.layout.specs.declared.find.Word.the-variants as word
-use Rattle.layout.specs.declared.find.Spot.{Spot}
-use Rattle.calls.specs.Reading.{spotBy, spotIf}
-use Rattle.calls.specs.Insert.{firstFree, freeRow, freePage, planBegin, planTurn, planRow, planSpot, planWord, preparedSpot}
+use Rattle.calls.specs.Insert.{firstFree, freeRow, freePage, planBegin, planTurn, planRow}
 use Rattle.calls.specs.declared.plan.Plan.{Plan}
-use Rattle.calls.specs.declared.plan.Plan.the-variants.{Refuse, Known, Mark, Enter, Begin, Turn}
+use Rattle.calls.specs.declared.plan.Plan.the-variants.{Refuse, Known, Enter, Begin, Turn}
 use Rattle.idset.proofs.Spots.{span}
 
 -- ---- where the header is looked at
@@ -58,9 +51,9 @@ module _ (x : Mem) (h : Header) (e : h ≡ head x) (b : Bool) (f : b ≡ headIs 
       pub begin-six : (leb (h .d) c && leb (h .v) n) ≡ true → Refuse 6 ≡ planBegin x c (freeRow x)
       begin-six k = begun true k
 
-      module _ (k : (leb (h .d) c && leb (h .v) n) ≡ false) (r : ℕ) (er : r ≡ firstFree (λ (i : ℕ). getD (x .table) (16 + 2 * h .d + 3 * h .v + i) 0) 0 (h .r)) where
+      module _ (k : (leb (h .d) c && leb (h .v) n) ≡ false) (r : ℕ) (er : r ≡ firstFree (rowOwner h (x .table)) 0 (h .r)) where
         row-is : r ≡ freeRow x
-        row-is = er ∙ ap (λ (k : Header). firstFree (λ (i : ℕ). getD (x .table) (16 + 2 * k .d + 3 * k .v + i) 0) 0 (k .r)) e
+        row-is = er ∙ ap (λ (k : Header). firstFree (rowOwner k (x .table)) 0 (k .r)) e
 
         fits : ltb (freeRow x) (head x .r) ≡ ltb r (h .r)
         fits = ap₂ (λ (i : ℕ) (k : Header). ltb i (k .r)) (sym row-is) (sym e)
@@ -84,9 +77,9 @@ module _ (x : Mem) (h : Header) (e : h ≡ head x) (b : Bool) (f : b ≡ headIs 
       pub turn-out : h .r ≤ r → Refuse 3 ≡ planTurn x r l (freePage x)
       turn-out m = there false (le-ltb r (h .r) m)
 
-      module _ (m : r < h .r) (p : ℕ) (ep : p ≡ firstFree (λ (i : ℕ). getD (x .table) (16 + 2 * h .d + 3 * h .v + h .r + i) 0) 0 (h .p)) where
+      module _ (m : r < h .r) (p : ℕ) (ep : p ≡ firstFree (pageOwner h (x .table)) 0 (h .p)) where
         page-is : p ≡ freePage x
-        page-is = ep ∙ ap (λ (k : Header). firstFree (λ (i : ℕ). getD (x .table) (16 + 2 * k .d + 3 * k .v + k .r + i) 0) 0 (k .p)) e
+        page-is = ep ∙ ap (λ (k : Header). firstFree (pageOwner k (x .table)) 0 (k .p)) e
 
         fit : ltb (freePage x) (head x .p) ≡ ltb p (h .p)
         fit = ap₂ (λ (i : ℕ) (k : Header). ltb i (k .p)) (sym page-is) (sym e)
@@ -100,11 +93,7 @@ module _ (x : Mem) (h : Header) (e : h ≡ head x) (b : Bool) (f : b ≡ headIs 
         pub turn-eight : h .p ≤ p → Refuse 8 ≡ planTurn x r l (freePage x)
         turn-eight i = ap (λ (t : Bool). turns true true t r l (freePage x)) (sym (fit ∙ le-ltb p (h .p) i)) ∙ there true (lt-ltb r (h .r) m)
 
--- where the owners begin
-pub owners-at : (h : Header) → InRange h → (16 + 2 * h .d + 3 * h .v ≤ 1048576) × (16 + 2 * h .d + 3 * h .v + h .r ≤ 1048576) × (h .r ≤ 65536) × (h .p ≤ 65536)
-owners-at h i = (omega arith, omega arith, i .r-high, i .p-high)
-
--- ---- into a row, into a page
+-- ---- into a row
 
 module _ (x : Mem) (w a n l o : ℕ) (p : Place) (e : p ≡ spotIn (take (a + n - a) (drop a (x .rows))) l o) where
   row-way : (q : Place) → p ≡ q → planRow x w a n l q ≡ planRow x w a n l (spotIn (take n (drop a (x .rows))) l o)
@@ -119,33 +108,3 @@ module _ (x : Mem) (w a n l o : ℕ) (p : Place) (e : p ≡ spotIn (take (a + n 
 
     pub row-turn : n ≤ l → (q : Plan) → q ≡ planTurn x ((w - 1) / 2048) l (freePage x) → q ≡ planRow x w a n l (spotIn (take n (drop a (x .rows))) l o)
     row-turn m q g = g ∙ (ap (λ (b : Bool). cond b (Enter a n l k w) (planTurn x ((w - 1) / 2048) l (freePage x))) (sym (le-ltb l n m)) ∙ row-way (Free k) f)
-
-module _ (pages : List ℕ) (a n o : ℕ) (b : Bool) (e : b ≡ isSet (take (a + n - a) (drop a pages)) o) where
-  page-way : cond b Known (Mark a n) ≡ cond (isSet (take n (drop a pages)) o) Known (Mark a n)
-  page-way = ap (λ (t : Bool). cond t Known (Mark a n)) (e ∙ ap (λ (k : ℕ). isSet (take k (drop a pages)) o) (span a n))
-
-  pub page-known : b ≡ true → Known ≡ cond (isSet (take n (drop a pages)) o) Known (Mark a n)
-  page-known f = ap (λ (t : Bool). cond t Known (Mark a n)) (sym f) ∙ page-way
-
-  pub page-mark : b ≡ false → Mark a n ≡ cond (isSet (take n (drop a pages)) o) Known (Mark a n)
-  page-mark f = ap (λ (t : Bool). cond t Known (Mark a n)) (sym f) ∙ page-way
-
--- ---- by the chunk's word
-
-module _ (x : Mem) (c o : ℕ) where
-  pub word-bad : word.Bad ≡ wordIn (x .table) c → Refuse 3 ≡ planWord x c o (wordIn (x .table) c)
-  word-bad e = ap (planWord x c o) e
-
-  pub prepared-bad : word.Bad ≡ wordIn (x .table) c → Refuse 3 ≡ preparedSpot x o (spotIf x (wordIn (x .table) c))
-  prepared-bad e = ap (λ (w : Word). preparedSpot x o (spotIf x w)) e
-
-  module _ (w : ℕ) (e : word.Is w ≡ wordIn (x .table) c) (q : Spot) (f : q ≡ spotBy x w) where
-    pub word-spot : planSpot x c o w q ≡ planWord x c o (wordIn (x .table) c)
-    word-spot = ap (planSpot x c o w) f ∙ ap (planWord x c o) e
-
-    pub prepared-spot : preparedSpot x o q ≡ preparedSpot x o (spotIf x (wordIn (x .table) c))
-    prepared-spot = ap (preparedSpot x o) (f ∙ ap (spotIf x) e)
-
--- the part, where s and m are the table's
-pub spot-by : (x : Mem) (s m w : ℕ) (q p : Spot) → s ≡ getD (x .table) 0 0 → m ≡ getD (x .table) 1 0 → q ≡ spotOf s m (length (x .pages)) (length (x .rows)) w → q ≡ p → p ≡ spotBy x w
-spot-by x s m w q p es em f g = sym g ∙ (f ∙ ap₂ (λ (i j : ℕ). spotOf i j (length (x .pages)) (length (x .rows)) w) es em)

@@ -13,21 +13,17 @@ use Rattle.sparse.specs.Search.{spotIn}
 use Rattle.sparse.specs.declared.Place.{Place}
 use Rattle.sparse.specs.declared.Place.the-variants.{Found, Free}
 use Rattle.sparse.proofs.Searches.{placeOf, spot-le}
-use Rattle.dense.specs.Bits.{isSet}
 use Rattle.layout.specs.Mem.{Mem}
 use Rattle.layout.specs.Sizes.{head, overCount}
 use Rattle.layout.specs.Short.{directWord, overflowWord, overWord, overPlace, wordIn}
 use Rattle.layout.specs.Tests.{headIs}
-use Rattle.layout.proofs.Tests.{HeadIs, head-of}
-use Rattle.layout.specs.declared.find.Word.{Word}
+use Rattle.layout.proofs.Tests.{head-of}
 use Rattle.layout.specs.declared.find.Word.the-variants as word
-use Rattle.layout.specs.declared.find.Spot.{Spot}
-use Rattle.layout.specs.declared.find.Spot.the-variants.{Nowhere, Row, Page, Bad}
-use Rattle.calls.specs.Reading.{spotBy, spotIf}
-use Rattle.calls.specs.Insert.{freeRow, freePage, planBegin, planTurn, planRow, planSpot, planWord, preparedSpot}
-use Rattle.calls.specs.declared.plan.Plan.{Plan}
-use Rattle.calls.specs.declared.plan.Plan.the-variants.{Refuse, Known, Mark, Enter, Begin, Turn}
-use Rattle.idset.proofs.Spots.{InRows, InPages, spot-row, spot-page, spot-sparse}
+use Rattle.layout.specs.declared.find.Spot.the-variants.{Row, Page}
+use Rattle.calls.specs.Reading.{spotBy}
+use Rattle.calls.specs.Insert.{freeRow, freePage, planBegin, planTurn, planRow}
+use Rattle.calls.specs.declared.plan.Plan.the-variants.{Refuse, Enter, Begin, Turn}
+use Rattle.idset.proofs.Spots.{InRows, spot-row, spot-page, spot-sparse}
 use Rattle.insert_plan.specs.Ready.{Reached, Ready}
 
 -- ---- a word that was found
@@ -64,10 +60,6 @@ module _ (x : Mem) (c o s : ℕ) (es : s ≡ getD (x .table) 0 0) (low : 9 ≤ s
       let f : n ≡ 2 ^ (s - 6) = e ∙ ap (λ (k : ℕ). 2 ^ (k - 6)) (sym es) in
       omega (arith, powers s low high .words)
 
-  ready-page : (a n : ℕ) → InPages (getD (x .table) 0 0) (length (x .pages)) a n → (b : Bool) → Ready (x .pages) (x .rows) (x .table) c o (cond b Known (Mark a n))
-  ready-page a n i true = tt
-  ready-page a n i false = record { inside = i .inside; bit = offset-bit n (i .wide) }
-
   -- what is asked where a part is looked at
   pub page-ready : (w a n : ℕ) → Page a n ≡ spotBy x w → (a + n ≤ length (x .pages)) × (o < 64 * n)
   page-ready w a n f =
@@ -96,7 +88,7 @@ module _ (x : Mem) (c o s : ℕ) (es : s ≡ getD (x .table) 0 0) (low : 9 ≤ s
         offset = offset-small;
       }
 
-  ready-begin : Ready (x .pages) (x .rows) (x .table) c o (planBegin x c (freeRow x))
+  pub ready-begin : Ready (x .pages) (x .rows) (x .table) c o (planBegin x c (freeRow x))
   ready-begin = begin-if (headIs (head x) x) (leb (head x .d) c && leb (head x .v) (overCount (x .table))) (ltb (freeRow x) (head x .r)) refl refl
 
   turn-if : (r l : ℕ) → l ≤ head x .m → (a t : Bool) → (headIs (head x) x && ltb r (head x .r)) ≡ a → ltb (freePage x) (head x .p) ≡ t → Ready (x .pages) (x .rows) (x .table) c o (cond a (cond t (Turn r l (freePage x)) (Refuse 8)) (Refuse 3))
@@ -132,39 +124,13 @@ module _ (x : Mem) (c o s : ℕ) (es : s ≡ getD (x .table) 0 0) (low : 9 ≤ s
           record { inside = i .inside; place = m; room = ltb-true l n q; offset = offset-small; word = omega arith; reached = reached }
       enter-if k m false q = let p = i .short in let z = i .wide in ready-turn ((w - 1) / 2048) l (omega arith)
 
-      ready-row : (p : Place) → placeOf p ≤ l → Ready (x .pages) (x .rows) (x .table) c o (planRow x w a n l p)
-      ready-row (Found k) m = tt
-      ready-row (Free k) m = enter-if k m (ltb l n) refl
+      row-if : (p : Place) → placeOf p ≤ l → Ready (x .pages) (x .rows) (x .table) c o (planRow x w a n l p)
+      row-if (Found k) m = tt
+      row-if (Free k) m = enter-if k m (ltb l n) refl
 
-    ready-spot : (q : Spot) → spotBy x w ≡ q → Ready (x .pages) (x .rows) (x .table) c o (planSpot x c o w q)
-    ready-spot Nowhere f = ready-begin
-    ready-spot (Row a n l) f =
-        ready-row a n l (spot-row (getD (x .table) 0 0) (getD (x .table) 1 0) (length (x .pages)) (length (x .rows)) w a n l f)
-        (spot-sparse (getD (x .table) 0 0) (getD (x .table) 1 0) (length (x .pages)) (length (x .rows)) w a n l f .1)
+    -- the plan of an insert into a row
+    pub ready-row : (a n l : ℕ) → Row a n l ≡ spotBy x w → Ready (x .pages) (x .rows) (x .table) c o (planRow x w a n l (spotIn (take n (drop a (x .rows))) l o))
+    ready-row a n l f =
+        row-if a n l (spot-row (getD (x .table) 0 0) (getD (x .table) 1 0) (length (x .pages)) (length (x .rows)) w a n l (sym f))
+        (spot-sparse (getD (x .table) 0 0) (getD (x .table) 1 0) (length (x .pages)) (length (x .rows)) w a n l (sym f) .1)
         (spotIn (take n (drop a (x .rows))) l o) (spot-le (take n (drop a (x .rows))) l o)
-    ready-spot (Page a n) f =
-        ready-page a n (spot-page (getD (x .table) 0 0) (getD (x .table) 1 0) (length (x .pages)) (length (x .rows)) w a n f) (isSet (take n (drop a (x .pages))) o)
-    ready-spot Bad f = tt
-
-  ready-word : (v : Word) → v ≡ wordIn (x .table) c → Ready (x .pages) (x .rows) (x .table) c o (planWord x c o v)
-  ready-word (word.Is w) e = ready-spot w e (spotBy x w) refl
-  ready-word word.Bad e = tt
-
-  -- the plan of `set_if_new`
-  pub ready-plan : Ready (x .pages) (x .rows) (x .table) c o (planWord x c o (wordIn (x .table) c))
-  ready-plan = ready-word (wordIn (x .table) c) refl
-
-  prepared-if : (q : Spot) (w : ℕ) → spotBy x w ≡ q → Ready (x .pages) (x .rows) (x .table) c o (preparedSpot x o q)
-  prepared-if Nowhere w f = tt
-  prepared-if (Row a n l) w f = tt
-  prepared-if (Page a n) w f =
-      ready-page a n (spot-page (getD (x .table) 0 0) (getD (x .table) 1 0) (length (x .pages)) (length (x .rows)) w a n f) (isSet (take n (drop a (x .pages))) o)
-  prepared-if Bad w f = tt
-
-  prepared-word : (v : Word) → Ready (x .pages) (x .rows) (x .table) c o (preparedSpot x o (spotIf x v))
-  prepared-word (word.Is w) = prepared-if (spotBy x w) w refl
-  prepared-word word.Bad = tt
-
-  -- the plan of the prepared insert
-  pub ready-prepared : Ready (x .pages) (x .rows) (x .table) c o (preparedSpot x o (spotIf x (wordIn (x .table) c)))
-  ready-prepared = prepared-word (wordIn (x .table) c)

@@ -1,5 +1,4 @@
 -- When a plan can be carried out: every part that it writes lies inside its slice.
-use mathlib.Core.Path.{_≡_}
 use mathlib.Core.List.{List}
 use Prim.Native.Nat.{ℕ, _+_, _*_, _^_, _≤_, _<_}
 use lib.ListN.{length, getD}

@@ -1,72 +1,30 @@
 -- What a plan writes, slice by slice, is what the plan does to memory. Assumes nothing.
-use mathlib.Core.Path.{_≡_, refl, sym, _∙_, ap, ap₂}
-use mathlib.Core.List.{List, _++_, append-nil}
-use mathlib.Core.Bool.{Bool, true, cond}
-use Prim.Native.Nat.{ℕ, _+_, _-_, _*_, _^_, _≤_, _<_}
-use native.Mathlib.Omega.{arith}
-use lib.Dec.{ltb}
-use lib.ListN.{length, getD, set, take, drop, replicate, length-take, length-drop}
-use lib.Seq.{drop-drop, drop-length}
-use Rattle.sparse.specs.Edit.{insertedAt, cleared}
+use mathlib.Core.Path.{_≡_, sym, _∙_, ap, ap₂}
+use mathlib.Core.List.{List, _++_}
+use mathlib.Core.Bool.{true}
+use Prim.Native.Nat.{ℕ, _+_, _-_, _*_}
+use lib.ListN.{take, drop, replicate}
+use Rattle.sparse.specs.Edit.{insertedAt}
 use Rattle.dense.specs.Bits.{withBit, withRow}
 use Rattle.layout.specs.Mem.{Mem, mem}
-use Rattle.layout.specs.Sizes.{top, wide, directAt, headerAt, overCount}
+use Rattle.layout.specs.Sizes.{top, wide, headerAt}
 use Rattle.layout.specs.Places.{encoded, rowPart, pagePart}
 use Rattle.layout.specs.declared.head.Header.{Header}
 use Rattle.layout.specs.declared.place.Place.the-variants.{Sparse, Dense}
 use Rattle.layout.specs.declared.answer.Truth.the-variants as truth
-use Rattle.steps.specs.Writes.{putPart, overPut, putWord, putRowOwner, putPageOwner, putRow}
+use Rattle.steps.specs.Writes.{putPart, putWord, putRowOwner, putPageOwner, putRow}
 use Rattle.steps.specs.Steps.{rowed, paged}
-use borrow.Author.Tests.{lt-ltb}
-use Rattle.layout.specs.Short.{overPlace}
+use Rattle.steps.proofs.Lent.{span, put-lent}
 use Rattle.calls.specs.Insert.{actBy, answerOf, Told, told}
 use Rattle.calls.specs.declared.plan.Plan.{Plan}
 use Rattle.calls.specs.declared.plan.Plan.the-variants.{Mark, Enter, Begin, Turn}
-use Rattle.idset.proofs.Spots.{span}
-
--- ---- a part that was lent and came back
-
--- f applied to the n elements from a on
-pub put-is : (xs : List ℕ) (a n : ℕ) (f : List ℕ → List ℕ) (ys : List ℕ) → ys ≡ f (take (a + n - a) (drop a xs)) → take a xs ++ (ys ++ drop (a + n - a) (drop a xs)) ≡ putPart xs a n (f (take n (drop a xs)))
-unfolding putPart
-put-is xs a n f ys e =
-    ap₂ (λ (u v : List ℕ). take a xs ++ (u ++ v)) (e ∙ ap (λ (k : ℕ). f (take k (drop a xs))) (span a n))
-    (ap (λ (k : ℕ). drop k (drop a xs)) (span a n) ∙ drop-drop n a xs)
-
--- the same, where start and width were computed
-pub put-at : (xs : List ℕ) (i k a n : ℕ) → i ≡ a → k ≡ n → (f : List ℕ → List ℕ) (ys : List ℕ) → ys ≡ f (take (i + k - i) (drop i xs)) → take i xs ++ (ys ++ drop (i + k - i) (drop i xs)) ≡ putPart xs a n (f (take n (drop a xs)))
-put-at xs i k a n p q f ys e = put-is xs i k f ys e ∙ ap₂ (λ (u v : ℕ). putPart xs u v (f (take v (drop u xs)))) p q
-
--- a row that is cleared whole
-pub cleared-all : (row : List ℕ) (m : ℕ) → length row ≡ m → cleared row m ≡ replicate m 0
-unfolding cleared
-cleared-all row m e = ap (λ (u : List ℕ). replicate m 0 ++ u) (ap (λ (k : ℕ). drop k row) (sym e) ∙ drop-length row) ∙ append-nil (replicate m 0)
-
--- row r cleared
-pub free-put : (rows : List ℕ) (h : Header) (r i : ℕ) → i ≡ r * h .m → r * h .m + h .m ≤ length rows → (ys : List ℕ) → ys ≡ cleared (take (i + h .m - i) (drop i rows)) (h .m) → take i rows ++ (ys ++ drop (i + h .m - i) (drop i rows)) ≡ putRow h rows r (replicate (h .m) 0)
-free-put rows h r i e l ys f =
-    put-at rows i (h .m) (r * h .m) (h .m) e refl (λ (w : List ℕ). cleared w (h .m)) ys f
-    ∙ ap (putRow h rows r) (cleared-all (rowPart h rows r) (h .m) (simp (length-take, length-drop) (omega arith)))
 
 -- page p filled from row r
 pub turn-put : (pages rows : List ℕ) (h : Header) (r p l o i j k : ℕ) → i ≡ r * h .m → j ≡ p * wide h → k ≡ wide h → (ys : List ℕ) → ys ≡ withBit (withRow (take (j + k - j) (drop j pages)) 0 (take (i + h .m - i) (drop i rows)) (top h) l) o → take j pages ++ (ys ++ drop (j + k - j) (drop j pages)) ≡ putPart pages (p * wide h) (wide h) (withBit (withRow (pagePart h pages p) 0 (rowPart h rows r) (top h) l) o)
 turn-put pages rows h r p l o i j k ei ej ek ys f =
-    put-at pages j k (p * wide h) (wide h) ej ek (λ (w : List ℕ). withBit (withRow w 0 (take (i + h .m - i) (drop i rows)) (top h) l) o) ys f
+    put-lent pages j k (p * wide h) (wide h) ej ek (λ (w : List ℕ). withBit (withRow w 0 (take (i + h .m - i) (drop i rows)) (top h) l) o) ys f
     ∙ ap (λ (row : List ℕ). putPart pages (p * wide h) (wide h) (withBit (withRow (pagePart h pages p) 0 row (top h) l) o))
     (ap (λ (n : ℕ). take n (drop i rows)) (span i (h .m)) ∙ ap (λ (n : ℕ). take (h .m) (drop n rows)) ei)
-
--- a direct entry's word
-pub direct-put : (t u : List ℕ) (c d w : ℕ) → d ≡ getD t 2 0 → c < d → u ≡ set t (16 + 2 * c) w → u ≡ putWord (headerAt t) t c w
-unfolding putWord
-direct-put t u c d w e l f =
-    let m : c < getD t 2 0 = omega (arith, e) in
-    f ∙ ap (λ (b : Bool). cond b (set t (directAt c) w) (overPut (headerAt t) t c w (overPlace t (16 + 2 * getD t 2 0) (overCount t) c))) (sym (lt-ltb c (getD t 2 0) m))
-
-pub over-head : (t : List ℕ) (c d : ℕ) (h : Header) → h ≡ headerAt t → d ≡ getD t 2 0 → d ≤ c → (getD t 2 0 ≤ c → (getD t 2 0 ≤ 262144) × (overCount t ≤ 65536)) → (h .d ≤ 262144) × (h .d ≤ c → overCount t ≤ 65536)
-over-head t c d h e f l g =
-    let k = g (omega (arith, f)) in
-    let i : h .d ≡ getD t 2 0 = ap (λ (n : Header). n .d) e in
-    (omega (arith, k .0), λ (m : h .d ≤ c). k .1)
 
 -- ---- the plan
 

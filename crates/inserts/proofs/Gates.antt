@@ -1,8 +1,8 @@
--- `set_if_new`, `set` and the prepared insert, way by way. Assumes nothing.
+-- 3, then 4, then the id: from the gate to each insert's definition. Assumes nothing.
 use mathlib.Core.Path.{_≡_, refl, sym, _∙_, ap, ap₂}
 use mathlib.Core.List.{List}
 use mathlib.Core.Bool.{Bool, true, false, cond, not, _&&_}
-use Prim.Native.Nat.{ℕ, _≤_}
+use Prim.Native.Nat.{ℕ}
 use native.Mathlib.Omega.{arith}
 use lib.Dec.{leb, eqb}
 use lib.IntN.{ℤ}
@@ -15,7 +15,8 @@ use Rattle.sums.proofs.Rules.{both}
 use Rattle.layout.specs.Mem.{Mem}
 use Rattle.layout.specs.Sizes.{modeAt}
 use Rattle.layout.specs.Short.{wordIn}
-use Rattle.layout.specs.SetUp.{Did, did}
+use Rattle.layout.specs.SetUp.{did}
+use Rattle.layout.specs.declared.answer.Outcome.{Outcome}
 use Rattle.layout.specs.declared.answer.Truth.{Truth}
 use Rattle.layout.specs.declared.answer.Truth.the-variants as truth
 use Rattle.calls.specs.Reading.{shiftOk, spotIf}
@@ -144,5 +145,5 @@ module _ (x : Mem) where
         prepared-at g = ap (ran (split.At c k)) g ∙ prepared-split (split.At c k) f
 
 -- `set` says no more than that it was done, or why not
-pub set-drops : (y : Mem) (i : Told) (r q : Truth) → r ≡ q → told r y ≡ i → did (done q) y ≡ dropped i
-set-drops y i r q e f = ap (λ (a : Truth). did (done a) y) (sym e) ∙ ap dropped f
+pub set-drops : (y : Mem) (i : Told) (r : Truth) (q : Outcome) → q ≡ done r → told r y ≡ i → did q y ≡ dropped i
+set-drops y i r q e f = ap (λ (a : Outcome). did a y) e ∙ ap dropped f

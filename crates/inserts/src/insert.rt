@@ -1,27 +1,38 @@
-// Inserts: `set_if_new`, `set`, and the prepared insert.
+// Inserts: `set_if_new`, `set`, and the prepared insert. Each tries the short way first.
 ghost use mathlib.Core.Path.{_≡_};
 ghost use Rattle.layout.specs.Mem.{memOf};
-ghost use Rattle.inserts.specs.Calls.{refusalOf, SetsIfNew, SetsPrepared, Sets};
-use crate::write;
+ghost use Rattle.calls.specs.Insert.{told, insertBy, preparedBy};
+ghost use Rattle.calls.specs.Promise.{done};
+ghost use Rattle.inserts.specs.Calls.{SetsIfNew, SetsPrepared, Sets};
+use crate::chunk;
+use crate::direct;
+use crate::direct::Direct;
+use crate::gate;
 use layout::answer::Outcome;
 use layout::answer::Truth;
 use numbers::Split;
 use numbers::id as ids;
 use numbers::place as element;
 
-// 3 for a size or a mode that is not allowed, 4 for a ranked set, 0 for an open one.
-fn refusal(table: &[u64]) -> u64
-    ensures { λ n. ⌜ n ≡ refusalOf (now (table .entry)) ⌝ }
+// The whole way: `set_if_new` into any chunk.
+fn anywhere(
+    pages: &mut [u64],
+    rows: &mut [u32],
+    blocks: &[u32],
+    table: &mut [u64],
+    id: i64,
+) -> Truth
+    ensures { λ r. ⌜ told r (memOf (pages .exit) (rows .exit) (blocks .entry) (table .exit)) ≡ insertBy (memOf (pages .entry) (rows .entry) (blocks .entry) (table .entry)) id ⌝ }
 {
+    let n = gate::refusal(table);
+    if n != 0 {
+        return Truth::Refused(n);
+    }
     let s = element::at(table, 0);
-    let mode = element::at(table, 6);
-    if !((9 <= s) & (s <= 25) & (mode <= 1)) {
-        return 3;
-    }
-    if mode == 1 {
-        return 4;
-    }
-    0
+    let Split::At(c, o) = ids::split(id, s) else {
+        return Truth::Is(false);
+    };
+    chunk::put(pages, rows, blocks, table, s, c, o)
 }
 
 // Inserts an id, and answers whether it is new.
@@ -34,16 +45,20 @@ pub fn set_if_new(
 ) -> Truth
     ensures { λ r. ⌜ SetsIfNew (memOf (pages .entry) (rows .entry) (blocks .entry) (table .entry)) id r (memOf (pages .exit) (rows .exit) (blocks .exit) (table .exit)) ⌝ }
 {
-    let n = refusal(table);
-    if n != 0 {
-        return Truth::Refused(n);
+    match direct::put(pages, rows, blocks, table, id) {
+        Direct::Is(b) => Truth::Is(b),
+        Direct::Elsewhere => anywhere(pages, rows, blocks, table, id),
     }
-    let s = element::at(table, 0);
-    let Split::At(c, o) = ids::split(id, s) else {
-        return Truth::Is(false);
-    };
-    let q = insert_plan::plan(pages, rows, blocks, table, s, c, o);
-    write::act(pages, rows, table, c, o, q)
+}
+
+// Whether it was done, of an answer that says more.
+fn drop_answer(a: Truth) -> Outcome
+    ensures { λ r. ⌜ r ≡ done a ⌝ }
+{
+    match a {
+        Truth::Is(_) => Outcome::Done,
+        Truth::Refused(n) => Outcome::Refused(n),
+    }
 }
 
 // Inserts an id, and drops the answer.
@@ -56,10 +71,25 @@ pub fn set(
 ) -> Outcome
     ensures { λ r. ⌜ Sets (memOf (pages .entry) (rows .entry) (blocks .entry) (table .entry)) id r (memOf (pages .exit) (rows .exit) (blocks .exit) (table .exit)) ⌝ }
 {
-    match set_if_new(pages, rows, blocks, table, id) {
-        Truth::Is(_) => Outcome::Done,
-        Truth::Refused(n) => Outcome::Refused(n),
+    match direct::put(pages, rows, blocks, table, id) {
+        Direct::Is(_) => Outcome::Done,
+        Direct::Elsewhere => drop_answer(anywhere(pages, rows, blocks, table, id)),
     }
+}
+
+// The whole way of the prepared insert.
+fn prepared(pages: &mut [u64], rows: &[u32], blocks: &[u32], table: &[u64], id: i64) -> Truth
+    ensures { λ r. ⌜ told r (memOf (pages .exit) (rows .entry) (blocks .entry) (table .entry)) ≡ preparedBy (memOf (pages .entry) (rows .entry) (blocks .entry) (table .entry)) id ⌝ }
+{
+    let n = gate::refusal(table);
+    if n != 0 {
+        return Truth::Refused(n);
+    }
+    let s = element::at(table, 0);
+    let Split::At(c, o) = ids::split(id, s) else {
+        return Truth::Refused(9);
+    };
+    chunk::put_prepared(pages, rows, blocks, table, s, c, o)
 }
 
 // Inserts an id into a dense chunk, and answers whether it is new; else 9.
@@ -72,14 +102,8 @@ pub fn set_prepared(
 ) -> Truth
     ensures { λ r. ⌜ SetsPrepared (memOf (pages .entry) (rows .entry) (blocks .entry) (table .entry)) id r (memOf (pages .exit) (rows .exit) (blocks .exit) (table .exit)) ⌝ }
 {
-    let n = refusal(table);
-    if n != 0 {
-        return Truth::Refused(n);
+    match direct::put(pages, rows, blocks, table, id) {
+        Direct::Is(b) => Truth::Is(b),
+        Direct::Elsewhere => prepared(pages, rows, blocks, table, id),
     }
-    let s = element::at(table, 0);
-    let Split::At(c, o) = ids::split(id, s) else {
-        return Truth::Refused(9);
-    };
-    let q = insert_plan::prepared(pages, rows, blocks, table, s, c, o);
-    write::act(pages, rows, table, c, o, q)
 }

@@ -1,15 +1,16 @@
 // What a plan writes, a function for each slice or two.
 ghost use mathlib.Core.Path.{_≡_};
 ghost use mathlib.Core.List.{List};
+ghost use mathlib.Core.Bool.{not};
 ghost use Prim.Native.Nat.{ℕ, _+_, _*_, _^_, _≤_, _<_};
-ghost use lib.ListN.{length, getD, take, drop, replicate};
+ghost use lib.ListN.{length, getD, take, drop};
 ghost use Rattle.sparse.specs.Edit.{insertedAt};
-ghost use Rattle.dense.specs.Bits.{withBit, withRow};
+ghost use Rattle.dense.specs.Bits.{isSet, withBit, withRow};
 ghost use Rattle.layout.specs.Mem.{mem};
 ghost use Rattle.layout.specs.Sizes.{InRange, top, wide, headerAt, overCount};
 ghost use Rattle.layout.specs.Places.{encoded, rowPart, pagePart};
-ghost use Rattle.layout.specs.declared.place.Place.the-variants.{Sparse, Dense};
-ghost use Rattle.steps.specs.Writes.{putPart, putWord, putRowOwner, putPageOwner, putRow};
+ghost use Rattle.layout.specs.declared.place.Place.the-variants.{Sparse};
+ghost use Rattle.steps.specs.Writes.{putPart, putWord, putRowOwner, putRow};
 ghost use Rattle.calls.specs.Insert.{answerOf, actBy, told};
 ghost use Rattle.insert_plan.specs.Ready.{Ready};
 use calls::plan::Plan;
@@ -17,30 +18,17 @@ use layout::answer::Truth;
 use layout::head;
 use layout::head::Header;
 use layout::place;
-use numbers::place as element;
 use numbers::power;
+use steps::turn;
 use steps::write;
 
-// A bit of a page of n words from a on.
-pub fn mark(pages: &mut [u64], a: usize, n: usize, o: u64)
+// A bit of a page of n words from a on, and whether it was clear.
+pub fn mark(pages: &mut [u64], a: usize, n: usize, o: u64) -> bool
     requires { ⌜ (a + n ≤ length (now pages)) × (o < 64 * n) ⌝ }
-    ensures { λ _. ⌜ now (pages .exit) ≡ putPart (now (pages .entry)) a n (withBit (take n (drop a (now (pages .entry)))) o) ⌝ }
+    ensures { λ b. ⌜ (b ≡ not (isSet (take n (drop a (now (pages .entry)))) o)) × (now (pages .exit) ≡ putPart (now (pages .entry)) a n (withBit (take n (drop a (now (pages .entry)))) o)) ⌝ }
 {
     let e = a + n;
-    dense::insert(&mut pages[a..e], o);
-}
-
-// Chunk c's word: one write for a direct entry.
-pub fn put_word(table: &mut [u64], c: u64, w: u64)
-    requires { ⌜ (c < 2 ^ 62) × (getD (now table) 2 0 ≤ c → (getD (now table) 2 0 ≤ 262144) × (overCount (now table) ≤ 65536)) ⌝ }
-    ensures { λ _. ⌜ now (table .exit) ≡ putWord (headerAt (now (table .entry))) (now (table .entry)) c w ⌝ }
-{
-    if c < element::at(table, 2) {
-        element::put(table, 16 + 2 * c, w);
-        return;
-    }
-    let h = head::read(table);
-    write::put_word(table, h, c, w);
+    dense::insert(&mut pages[a..e], o)
 }
 
 // An offset more in a row of n places from a on with l members: its place is k, the chunk's word w.
@@ -60,7 +48,7 @@ pub fn enter(
 {
     let e = a + n;
     sparse::insert_at(&mut rows[a..e], l, k, o as u32);
-    put_word(table, c, w + 1);
+    write::set_word(table, c, w + 1);
 }
 
 // A free row r with one offset.
@@ -104,27 +92,6 @@ pub fn turn_page(pages: &mut [u64], rows: &[u32], h: Header, r: u64, l: usize, p
     fill(&mut pages[b..f], &rows[a..e], l, s, o);
 }
 
-// Row r is free again: filled with zeros.
-pub fn free_row(rows: &mut [u32], h: Header, r: u64)
-    requires { ⌜ InRange h × (r < h .r) × (h .r * h .m ≤ length (now rows)) ⌝ }
-    ensures { λ _. ⌜ now (rows .exit) ≡ putRow h (now (rows .entry)) r (replicate (h .m) 0) ⌝ }
-{
-    let m = h.m as usize;
-    let a = head::row_at(h, r) as usize;
-    let e = a + m;
-    sparse::clear(&mut rows[a..e], m);
-}
-
-// Chunk c stands in page p, and row r has no owner.
-pub fn turn_entry(table: &mut [u64], h: Header, c: u64, r: u64, p: u64)
-    requires { ⌜ InRange h × (r < h .r) × (p < h .p) × (overCount (now table) ≤ 65536) × (c < 2 ^ 62) ⌝ }
-    ensures { λ _. ⌜ now (table .exit) ≡ putPageOwner h (putRowOwner h (putWord h (now (table .entry)) c (encoded (Dense p))) r 0) p (c + 1) ⌝ }
-{
-    write::put_word(table, h, c, place::page_word(p));
-    write::put_row_owner(table, h, r, 0);
-    write::put_page_owner(table, h, p, c + 1);
-}
-
 // What the plan says, of chunk c and offset o, whatever the block counts are.
 pub fn act(pages: &mut [u64], rows: &mut [u32], table: &mut [u64], c: u64, o: u64, q: Plan) -> Truth
     requires { ⌜ Ready (now pages) (now rows) (now table) c o q ⌝ }
@@ -150,8 +117,8 @@ pub fn act(pages: &mut [u64], rows: &mut [u32], table: &mut [u64], c: u64, o: u6
         Plan::Turn(r, l, p) => {
             let h = head::read(table);
             turn_page(pages, rows, h, r, l, p, o);
-            free_row(rows, h, r);
-            turn_entry(table, h, c, r, p);
+            turn::free_row(rows, h, r);
+            turn::turn_entry(table, h, c, r, p);
             Truth::Is(true)
         }
     }

@@ -1,10 +1,11 @@
--- The answer of `set_if_new`, without whether the id was new. Assumes nothing.
-use mathlib.Core.Path.{_∙_}
+-- As `set_if_new`, without whether the id was new. Assumes nothing.
+use mathlib.Core.Path.{refl, _∙_}
 use Rattle.numbers.proofs.Signs.{hop}
 use Rattle.layout.specs.Mem.{Mem, memOf}
 use Rattle.calls.specs.Insert.{insertBy}
 use Rattle.inserts.proofs.Gates.{set-drops}
 use Rattle.inserts.proofs.Promises.{sets}
+use Rattle.inserts.proofs.Ways.{short-insert, then-insert}
 use borrow.Author.Needs.{needs}
 use Rattle.inserts.proofs.insert.set.Statement.{statement}
 use Rattle.inserts.proofs.insert.set.Tie as tie
@@ -12,14 +13,20 @@ use Rattle.inserts.proofs.insert.set.Tie as tie
 abbrev memory : tie.Start → Mem
 memory c = memOf (c .args .pages) (c .args .rows) (c .args .blocks) (c .args .table)
 
-set-if-new-requires : tie.Need-set-if-new-requires
-set-if-new-requires c κs = search needs
+put-requires : tie.Need-put-requires
+put-requires c κs = search needs
 
 enum-told : tie.Need-enum-told
 enum-told c = search needs
 
-enum-known-n : tie.Need-enum-known-n
-enum-known-n c = search needs
+enum-told-2 : tie.Need-enum-told-2
+enum-told-2 c = search needs
+
+anywhere-requires : tie.Need-anywhere-requires
+anywhere-requires c κs = search needs
+
+drop-answer-requires : tie.Need-drop-answer-requires
+drop-answer-requires c κs = search needs
 
 same-length : tie.Need-same-length
 same-length c = search needs
@@ -34,7 +41,7 @@ same-length-4 : tie.Need-same-length-4
 same-length-4 c = search needs
 
 returns : tie.Need-returns
-returns c = let a = c .before .before .before .before .before .before .before .before .before .before .before .before .before .before .before .before .before .before .before in sets (memory a) (a .args .id) (a .fits .id) (set-drops _ _ _ _ (c .enum-told .given .1) (c .before .before .before .before .before .before .before .before .before .before .set-if-new .ensures .by ∙ hop (insertBy (memory a)) (a .args .id) (a .fits .id)))
+returns c = let a = c .before .before .before .before .before .before .before .before .before .before .before .before .before in sets (memory a) (a .args .id) (a .fits .id) (set-drops _ _ _ _ refl (short-insert (memory a) _ _ _ (c .before .before .before .before .put .ensures) _ (c .enum-told .given .1) ∙ hop (insertBy (memory a)) (a .args .id) (a .fits .id)))
 
 same-length-5 : tie.Need-same-length-5
 same-length-5 c = search needs
@@ -49,15 +56,17 @@ same-length-8 : tie.Need-same-length-8
 same-length-8 c = search needs
 
 returns-2 : tie.Need-returns-2
-returns-2 c = let a = c .before .before .before .before .before .before .before .before .before .before .before .before .before .before .before .before .before .before .before .before in sets (memory a) (a .args .id) (a .fits .id) (set-drops _ _ _ _ (c .before .n .given .1) (c .before .before .before .before .before .before .before .before .before .before .before .set-if-new .ensures .by ∙ hop (insertBy (memory a)) (a .args .id) (a .fits .id)))
+returns-2 c = let a = c .before .before .before .before .before .before .before .before .before .before .before .before .before .before .before .before .before .before .before .before .before .before .before .before .before in sets (memory a) (a .args .id) (a .fits .id) (set-drops _ _ _ _ (c .drop-answer .ensures) (then-insert (memory a) _ _ _ (c .before .before .before .before .before .before .before .before .before .before .before .before .before .before .before .before .put .ensures) (c .before .before .before .before .before .before .before .before .before .before .before .before .enum-told2 .given .1) _ _ (c .before .before .before .before .before .before .before .anywhere .ensures) ∙ hop (insertBy (memory a)) (a .args .id) (a .fits .id)))
 
 pub set-spec : {M : Type 1} → statement M
 set-spec =
     tie.close
     (tie.spec
-    set-if-new-requires
+    put-requires
     enum-told
-    enum-known-n
+    enum-told-2
+    anywhere-requires
+    drop-answer-requires
     same-length
     same-length-2
     same-length-3

@@ -1,5 +1,5 @@
 -- Each plan is its writes. Assumes nothing.
-use mathlib.Core.Path.{_≡_, sym, _∙_, subst}
+use mathlib.Core.Path.{_≡_, sym, subst}
 use mathlib.Core.List.{List}
 use Prim.Native.Nat.{ℕ}
 use Rattle.layout.specs.Mem.{mem}
@@ -84,7 +84,7 @@ same-length : tie.Need-same-length
 same-length c = search needs
 
 returns-3 : tie.Need-returns-3
-returns-3 c = λ b. let a = c .before .before .before .before .before .before .before .before .before .before in act-mark (pages a) (rows a) b (table a) (a .args .c) (a .args .o) (a .args .q) _ _ _ (c .before .before .before .before .before .q2 .given .1) (c .before .before .mark .ensures)
+returns-3 c = λ b. let a = c .before .before .before .before .before .before .before .before .before .before in act-mark (pages a) (rows a) b (table a) (a .args .c) (a .args .o) (a .args .q) _ _ _ (c .before .before .before .before .before .q2 .given .1) (c .before .before .mark .ensures .1)
 
 same-length-2 : tie.Need-same-length-2
 same-length-2 c = search needs

@@ -6,7 +6,7 @@ use native.Mathlib.Omega.{arith}
 use lib.ListN.{length}
 use Rattle.steps.proofs.Parts.{slot-in}
 use Rattle.sparse.specs.Edit.{insertedAt}
-use Rattle.inserts.proofs.Acts.{put-at}
+use Rattle.steps.proofs.Lent.{put-lent}
 use borrow.Author.Needs.{needs}
 use Rattle.inserts.proofs.write.begin_row.Statement.{statement}
 use Rattle.inserts.proofs.write.begin_row.Tie as tie
@@ -42,7 +42,7 @@ same-length : tie.Need-same-length
 same-length c = search needs
 
 returns : tie.Need-returns
-returns c = let a = c .before .before .before .before .before .before .args in put-at (a .rows .now) _ _ _ _ (c .before .before .before .before .row-at .ensures) refl (λ (w : List ℕ). insertedAt w 0 0 (a .o)) _ (c .before .before .insert-at .ensures)
+returns c = let a = c .before .before .before .before .before .before .args in put-lent (a .rows .now) _ _ _ _ (c .before .before .before .before .row-at .ensures) refl (λ (w : List ℕ). insertedAt w 0 0 (a .o)) _ (c .before .before .insert-at .ensures)
 
 pub begin-row-spec : {M : Type 1} → statement M
 begin-row-spec =

@@ -1,8 +1,9 @@
 -- The row, put back, then the word. Assumes nothing.
+use mathlib.Core.Path.{refl}
 use mathlib.Core.List.{List}
 use Prim.Native.Nat.{ℕ}
 use Rattle.sparse.specs.Edit.{insertedAt}
-use Rattle.inserts.proofs.Acts.{put-is}
+use Rattle.steps.proofs.Lent.{put-lent}
 use borrow.Author.Needs.{needs}
 use Rattle.inserts.proofs.write.enter.Statement.{statement}
 use Rattle.inserts.proofs.write.enter.Tie as tie
@@ -28,11 +29,11 @@ cast-insert-at c = search needs
 insert-at-requires : tie.Need-insert-at-requires
 insert-at-requires c κs = search needs
 
-add-put-word : tie.Need-add-put-word
-add-put-word c = search needs
+add-set-word : tie.Need-add-set-word
+add-set-word c = search needs
 
-put-word-requires : tie.Need-put-word-requires
-put-word-requires c κs = search needs
+set-word-requires : tie.Need-set-word-requires
+set-word-requires c κs = search needs
 
 same-length : tie.Need-same-length
 same-length c = search needs
@@ -41,7 +42,7 @@ same-length-2 : tie.Need-same-length-2
 same-length-2 c = search needs
 
 returns : tie.Need-returns
-returns c = let a = c .before .before .before .before .before .before .before .before .before .before .args in (put-is (a .rows .now) (a .a) (a .n) (λ (w : List ℕ). insertedAt w (a .l) (a .k) (a .o)) _ (c .before .before .before .before .before .before .insert-at .ensures), c .before .before .put-word .ensures)
+returns c = let a = c .before .before .before .before .before .before .before .before .before .before .args in (put-lent (a .rows .now) (a .a) (a .n) (a .a) (a .n) refl refl (λ (w : List ℕ). insertedAt w (a .l) (a .k) (a .o)) _ (c .before .before .before .before .before .before .insert-at .ensures), c .before .before .set-word .ensures)
 
 pub enter-spec : {M : Type 1} → statement M
 enter-spec =
@@ -54,8 +55,8 @@ enter-spec =
     part-insert-at-end
     cast-insert-at
     insert-at-requires
-    add-put-word
-    put-word-requires
+    add-set-word
+    set-word-requires
     same-length
     same-length-2
     returns)

@@ -1,8 +1,8 @@
 -- 3, then 4, else 0. Assumes nothing.
 use Rattle.inserts.proofs.Gates.{refusal-three, refusal-four, refusal-none}
 use borrow.Author.Needs.{needs}
-use Rattle.inserts.proofs.insert.refusal.Statement.{statement}
-use Rattle.inserts.proofs.insert.refusal.Tie as tie
+use Rattle.inserts.proofs.gate.refusal.Statement.{statement}
+use Rattle.inserts.proofs.gate.refusal.Tie as tie
 
 at-requires : tie.Need-at-requires
 at-requires c κs = search needs

@@ -1,16 +1,18 @@
 -- Only a page takes a prepared id. Assumes nothing.
 use mathlib.Core.Path.{_≡_, sym, _∙_}
-use Prim.Native.Nat.{ℕ}
+use Prim.Native.Nat.{ℕ, _+_, _*_, _≤_, _<_}
+use lib.ListN.{length}
 use Rattle.layout.specs.Mem.{Mem, memOf}
 use Rattle.layout.specs.Short.{wordIn}
 use Rattle.layout.specs.declared.find.Word.the-variants as word
 use Rattle.layout.specs.declared.find.Spot.{Spot}
+use Rattle.layout.specs.declared.find.Spot.the-variants.{Page}
 use Rattle.calls.specs.Reading.{spotBy}
-use Rattle.insert_plan.proofs.Plans.{prepared-bad, prepared-spot, spot-by}
 use Rattle.insert_plan.proofs.Readies.{page-ready}
+use Rattle.inserts.proofs.Chunks.{spot-by, prepared-bad, prepared-spot, prepared-page}
 use borrow.Author.Needs.{needs}
-use Rattle.insert_plan.proofs.prepared.Statement.{statement}
-use Rattle.insert_plan.proofs.prepared.Tie as tie
+use Rattle.inserts.proofs.chunk.put_prepared.Statement.{statement}
+use Rattle.inserts.proofs.chunk.put_prepared.Tie as tie
 
 abbrev memory : tie.Start → Mem
 memory c = memOf (c .args .pages) (c .args .rows) (c .args .blocks) (c .args .table)
@@ -27,6 +29,9 @@ module _ (c : tie.After-spot-of) where
 
   spotted : (q : Spot) → c .spot-of .result ≡ q → q ≡ spotBy (memory start) w
   spotted q e = spot-by (memory start) _ _ w _ q (start .pre .2) (c .before .at .ensures) (c .spot-of .ensures) e
+
+  page-in : (a n : ℕ) → c .spot-of .result ≡ Page a n → (a + n ≤ length (memory start .pages)) × (start .args .o < 64 * n)
+  page-in a n e = page-ready (memory start) (start .args .c) (start .args .o) (start .args .s) (start .pre .2) (start .pre .0) (start .pre .1) (start .pre .3) (start .pre .4) w a n (spotted (Page a n) e)
 
 word-of-requires : tie.Need-word-of-requires
 word-of-requires c κs = search needs
@@ -55,26 +60,33 @@ enum-told-3 c = search needs
 enum-known-a : tie.Need-enum-known-a
 enum-known-a c = search needs
 
-page-requires : tie.Need-page-requires
-page-requires c κs = let a = start (c .before .before .before) in page-ready (memory a) (a .args .c) (a .args .o) (a .args .s) (a .pre .2) (a .pre .0) (a .pre .1) (a .pre .3) (a .pre .4) (w (c .before .before .before)) _ _ (spotted (c .before .before .before) _ (c .before .a .given .1))
+mark-requires : tie.Need-mark-requires
+mark-requires c κs = page-in (c .before .before .before .before) _ _ (c .before .before .a .given .1)
 
 enum-told-4 : tie.Need-enum-told-4
 enum-told-4 c = search needs
 
 returns-2 : tie.Need-returns-2
-returns-2 c = prepared-spot (memory (start (c .before .before))) (start (c .before .before) .args .c) (start (c .before .before) .args .o) (w (c .before .before)) (word-is (c .before .before)) _ (spotted (c .before .before) _ (c .enum-told2 .given .1))
+returns-2 c = let k = c .before .before in let a = start k in prepared-spot (memory a) (a .args .c) (a .args .o) (w k) (word-is k) _ (spotted k _ (c .enum-told2 .given .1))
 
 returns-3 : tie.Need-returns-3
-returns-3 c = prepared-spot (memory (start (c .before .before))) (start (c .before .before) .args .c) (start (c .before .before) .args .o) (w (c .before .before)) (word-is (c .before .before)) _ (spotted (c .before .before) _ (c .enum-told3 .given .1))
+returns-3 c = let k = c .before .before in let a = start k in prepared-spot (memory a) (a .args .c) (a .args .o) (w k) (word-is k) _ (spotted k _ (c .enum-told3 .given .1))
+
+same-length : tie.Need-same-length
+same-length c = search needs
 
 returns-4 : tie.Need-returns-4
-returns-4 c = c .page .ensures ∙ prepared-spot (memory (start (c .before .before .before .before))) (start (c .before .before .before .before) .args .c) (start (c .before .before .before .before) .args .o) (w (c .before .before .before .before)) (word-is (c .before .before .before .before)) _ (spotted (c .before .before .before .before) _ (c .before .before .a .given .1))
+returns-4 c =
+    let k = c .before .before .before .before .before .before .before in
+    let a = start k in
+    let m = c .before .before .mark .ensures in
+    prepared-page (memory a .pages) (memory a .rows) (memory a .blocks) (memory a .table) (a .args .c) (a .args .o) (w k) (word-is k) _ _ (spotted k _ (c .before .before .before .before .before .a .given .1)) _ _ (m .0) (m .1)
 
 returns-5 : tie.Need-returns-5
-returns-5 c = prepared-spot (memory (start (c .before .before))) (start (c .before .before) .args .c) (start (c .before .before) .args .o) (w (c .before .before)) (word-is (c .before .before)) _ (spotted (c .before .before) _ (c .enum-told4 .given .1))
+returns-5 c = let k = c .before .before in let a = start k in prepared-spot (memory a) (a .args .c) (a .args .o) (w k) (word-is k) _ (spotted k _ (c .enum-told4 .given .1))
 
-pub prepared-spec : {M : Type 1} → statement M
-prepared-spec =
+pub put-prepared-spec : {M : Type 1} → statement M
+put-prepared-spec =
     tie.close
     (tie.spec
     word-of-requires
@@ -86,9 +98,10 @@ prepared-spec =
     enum-told-2
     enum-told-3
     enum-known-a
-    page-requires
+    mark-requires
     enum-told-4
     returns-2
     returns-3
+    same-length
     returns-4
     returns-5)

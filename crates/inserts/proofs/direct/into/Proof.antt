@@ -1,0 +1,99 @@
+-- The page that a direct entry names. Assumes nothing.
+use mathlib.Core.Path.{_≡_, sym, _∙_}
+use Prim.Native.Nat.{ℕ, _+_, _*_, _≤_, _<_}
+use lib.ListN.{length}
+use Rattle.layout.specs.Mem.{Mem, memOf}
+use Rattle.layout.specs.Short.{wordIn}
+use Rattle.layout.specs.declared.find.Word.the-variants as word
+use Rattle.layout.specs.declared.find.Spot.{Spot}
+use Rattle.layout.specs.declared.find.Spot.the-variants.{Page}
+use Rattle.calls.specs.Reading.{spotBy}
+use Rattle.insert_plan.proofs.Readies.{page-ready}
+use Rattle.inserts.proofs.Chunks.{spot-by, put-page, prepared-page}
+use Rattle.inserts.proofs.Ways.{into-none, into-is}
+use borrow.Author.Needs.{needs}
+use Rattle.inserts.proofs.direct.into.Statement.{statement}
+use Rattle.inserts.proofs.direct.into.Tie as tie
+
+abbrev memory : tie.Start → Mem
+memory c = memOf (c .args .pages) (c .args .rows) (c .args .blocks) (c .args .table)
+
+module _ (c : tie.After-spot-of) where
+  abbrev start : tie.Start
+  start = c .before .before .before .before .before .before .before .before .before .before .before .before
+
+  abbrev w : ℕ
+  w = c .before .before .before .w .given .0 .0
+
+  word-is : word.Is w ≡ wordIn (memory start .table) (start .args .c)
+  word-is = sym (c .before .before .before .w .given .1) ∙ c .before .before .before .before .before .word-of .ensures
+
+  spotted : (q : Spot) → c .spot-of .result ≡ q → q ≡ spotBy (memory start) w
+  spotted q e = spot-by (memory start) _ _ w _ q (start .pre .2) (c .before .at2 .ensures) (c .spot-of .ensures) e
+
+  page-in : (a n : ℕ) → c .spot-of .result ≡ Page a n → (a + n ≤ length (memory start .pages)) × (start .args .o < 64 * n)
+  page-in a n e = page-ready (memory start) (start .args .c) (start .args .o) (start .args .s) (start .pre .2) (start .pre .0) (start .pre .1) (start .pre .3) (start .pre .4) w a n (spotted (Page a n) e)
+
+at-requires : tie.Need-at-requires
+at-requires c κs = search needs
+
+returns : tie.Need-returns
+returns c = into-none (memory (c .before .before .before .before .before .before)) _ _
+
+word-of-requires : tie.Need-word-of-requires
+word-of-requires c κs = search needs
+
+enum-known-w : tie.Need-enum-known-w
+enum-known-w c = search needs
+
+enum-told : tie.Need-enum-told
+enum-told c = search needs
+
+returns-2 : tie.Need-returns-2
+returns-2 c = into-none (memory (c .before .before .before .before .before .before .before .before .before)) _ _
+
+at-requires-2 : tie.Need-at-requires-2
+at-requires-2 c κs = search needs
+
+spot-of-requires : tie.Need-spot-of-requires
+spot-of-requires c κs = search needs
+
+enum-known-a : tie.Need-enum-known-a
+enum-known-a c = search needs
+
+returns-3 : tie.Need-returns-3
+returns-3 c = into-none (memory (c .before .before .before .before .before .before .before .before .before .before .before .before .before)) _ _
+
+mark-requires : tie.Need-mark-requires
+mark-requires c κs = page-in (c .before .before .before .before) _ _ (c .before .before .a .given .1)
+
+same-length : tie.Need-same-length
+same-length c = search needs
+
+returns-4 : tie.Need-returns-4
+returns-4 c =
+    let k = c .before .before .before .before .before .before .before in
+    let a = start k in
+    let p = spotted k _ (c .before .before .before .before .before .a .given .1) in
+    let m = c .before .before .mark .ensures in
+    into-is (memory a) (a .args .c) (a .args .o) _ _
+    (put-page (memory a .pages) (memory a .rows) (memory a .blocks) (memory a .table) (a .args .c) (a .args .o) (w k) (word-is k) _ _ p _ _ (m .0) (m .1))
+    (prepared-page (memory a .pages) (memory a .rows) (memory a .blocks) (memory a .table) (a .args .c) (a .args .o) (w k) (word-is k) _ _ p _ _ (m .0) (m .1))
+
+pub into-spec : {M : Type 1} → statement M
+into-spec =
+    tie.close
+    (tie.spec
+    at-requires
+    returns
+    word-of-requires
+    enum-known-w
+    enum-told
+    returns-2
+    at-requires-2
+    spot-of-requires
+    enum-known-a
+    returns-3
+    mark-requires
+    same-length
+    returns-4)

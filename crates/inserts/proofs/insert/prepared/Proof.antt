@@ -1,0 +1,72 @@
+-- 3 and 4 first, then the chunk. Assumes nothing.
+use mathlib.Core.Path.{_≡_, refl, _∙_}
+use Prim.Native.Nat.{_^_, _<_}
+use Rattle.numbers.specs.Ids.{splitOf}
+use Rattle.numbers.specs.declared.Split.the-variants as split
+use Rattle.layout.specs.Mem.{Mem, memOf}
+use Rattle.idset.proofs.Shifts.{Shift, shift-64, split-is, chunk-small}
+use Rattle.inserts.proofs.Gates.{open-shift, prepare-refused, prepared-negative, prepared-at}
+use borrow.Author.Needs.{needs}
+use Rattle.inserts.proofs.insert.prepared.Statement.{statement}
+use Rattle.inserts.proofs.insert.prepared.Tie as tie
+
+abbrev memory : tie.Start → Mem
+memory c = memOf (c .args .pages) (c .args .rows) (c .args .blocks) (c .args .table)
+
+module _ (c : tie.After-known-told) where
+  abbrev start : tie.Start
+  start = c .before .before .before .before .before .before .before .before .before .before .before
+
+  shifted : Shift (c .before .before .before .before .at .result)
+  shifted = open-shift (memory start) _ _ (c .before .before .before .before .before .before .refusal .ensures) (c .before .before .before .before .before .if1 .left) (c .before .before .before .before .at .ensures)
+
+  small : (c .before .c .given .0 .0 < 2 ^ 62) × (c .before .c .given .0 .1 .0 < 2 ^ c .before .before .before .before .at .result)
+  small = chunk-small _ (start .args .id) (start .fits .id) _ (c .before .before .before .split .ensures) _ _ shifted (c .before .c .given .1)
+
+  lies : split.At (c .before .c .given .0 .0) (c .before .c .given .0 .1 .0) ≡ splitOf (c .before .before .before .before .at .result) (start .args .id)
+  lies = split-is _ (start .args .id) (start .fits .id) _ (c .before .before .before .split .ensures) _ (c .before .c .given .1)
+
+refusal-requires : tie.Need-refusal-requires
+refusal-requires c κs = search needs
+
+returns : tie.Need-returns
+returns c = let a = c .before .before .before .before .before .before in prepare-refused (memory a) (a .args .id) _ (c .before .refusal .ensures) (c .if1 .taken)
+
+at-requires : tie.Need-at-requires
+at-requires c κs = search needs
+
+split-requires : tie.Need-split-requires
+split-requires c κs = shift-64 _ (open-shift (memory (c .before .before .before .before .before .before .before)) _ _ (c .before .before .refusal .ensures) (c .before .if1 .left) (c .at .ensures))
+
+enum-known-c : tie.Need-enum-known-c
+enum-known-c c = search needs
+
+enum-told : tie.Need-enum-told
+enum-told c = search needs
+
+returns-2 : tie.Need-returns-2
+returns-2 c = let a = c .before .before .before .before .before .before .before .before .before .before in prepared-negative (memory a) (a .args .id) _ (c .before .before .before .before .before .refusal .ensures) (c .before .before .before .before .if1 .left) _ (c .before .before .before .at .ensures) (split-is _ (a .args .id) (a .fits .id) _ (c .before .before .split .ensures) _ (c .enum-told .given .1))
+
+put-prepared-requires : tie.Need-put-prepared-requires
+put-prepared-requires c κs = let k = c .before in (shifted k .low, shifted k .high, k .before .before .before .before .at .ensures, small k .0, small k .1)
+
+same-length : tie.Need-same-length
+same-length c = search needs
+
+returns-3 : tie.Need-returns-3
+returns-3 c = let k = c .before .before .before .before in let a = start k in c .before .before .put-prepared .ensures ∙ prepared-at (memory a) (a .args .id) _ (k .before .before .before .before .before .before .refusal .ensures) (k .before .before .before .before .before .if1 .left) _ (k .before .before .before .before .at .ensures) _ _ (lies k) _ refl
+
+pub prepared-spec : {M : Type 1} → statement M
+prepared-spec =
+    tie.close
+    (tie.spec
+    refusal-requires
+    returns
+    at-requires
+    split-requires
+    enum-known-c
+    enum-told
+    returns-2
+    put-prepared-requires
+    same-length
+    returns-3)

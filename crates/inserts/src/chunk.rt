@@ -1,0 +1,81 @@
+// An offset of any chunk: into the part that the chunk's word names. Only a new chunk and a row need a plan.
+ghost use mathlib.Core.Path.{_≡_};
+ghost use Prim.Native.Nat.{_^_, _≤_, _<_};
+ghost use lib.ListN.{getD};
+ghost use Rattle.layout.specs.Mem.{memOf};
+ghost use Rattle.layout.specs.Short.{wordIn};
+ghost use Rattle.calls.specs.Reading.{spotIf};
+ghost use Rattle.calls.specs.Insert.{planWord, preparedSpot, told};
+ghost use Rattle.inserts.specs.Ways.{acted};
+use crate::write;
+use layout::answer::Truth;
+use layout::find;
+use layout::find::Spot;
+use layout::find::Word;
+use numbers::place as element;
+
+// Offset o of chunk c, where chunks have 2^s ids.
+pub fn put(
+    pages: &mut [u64],
+    rows: &mut [u32],
+    blocks: &[u32],
+    table: &mut [u64],
+    s: u64,
+    c: u64,
+    o: u64,
+) -> Truth
+    requires { ⌜ (9 ≤ s) × (s ≤ 25) × (s ≡ getD (now table) 0 0) × (c < 2 ^ 62) × (o < 2 ^ s) ⌝ }
+    ensures { λ r. ⌜ told r (memOf (pages .exit) (rows .exit) (blocks .entry) (table .exit)) ≡ acted (memOf (pages .entry) (rows .entry) (blocks .entry) (table .entry)) c o (planWord (memOf (pages .entry) (rows .entry) (blocks .entry) (table .entry)) c o (wordIn (now (table .entry)) c)) ⌝ }
+{
+    let Word::Is(w) = find::word_of(table, c) else {
+        return Truth::Refused(3);
+    };
+    match find::spot_of(
+        s,
+        element::at(table, 1),
+        pages.len() as u64,
+        rows.len() as u64,
+        w,
+    ) {
+        Spot::Nowhere => {
+            let q = insert_plan::begin(pages, rows, blocks, table, c);
+            write::act(pages, rows, table, c, o, q)
+        }
+        Spot::Row(a, n, l) => {
+            let q = insert_plan::row(pages, rows, blocks, table, o, w, a, n, l);
+            write::act(pages, rows, table, c, o, q)
+        }
+        Spot::Page(a, n) => Truth::Is(write::mark(pages, a, n, o)),
+        Spot::Bad => Truth::Refused(3),
+    }
+}
+
+// The prepared insert: only into a dense chunk.
+pub fn put_prepared(
+    pages: &mut [u64],
+    rows: &[u32],
+    blocks: &[u32],
+    table: &[u64],
+    s: u64,
+    c: u64,
+    o: u64,
+) -> Truth
+    requires { ⌜ (9 ≤ s) × (s ≤ 25) × (s ≡ getD (now table) 0 0) × (c < 2 ^ 62) × (o < 2 ^ s) ⌝ }
+    ensures { λ r. ⌜ told r (memOf (pages .exit) (rows .entry) (blocks .entry) (table .entry)) ≡ acted (memOf (pages .entry) (rows .entry) (blocks .entry) (table .entry)) c o (preparedSpot (memOf (pages .entry) (rows .entry) (blocks .entry) (table .entry)) o (spotIf (memOf (pages .entry) (rows .entry) (blocks .entry) (table .entry)) (wordIn (now (table .entry)) c))) ⌝ }
+{
+    let Word::Is(w) = find::word_of(table, c) else {
+        return Truth::Refused(3);
+    };
+    match find::spot_of(
+        s,
+        element::at(table, 1),
+        pages.len() as u64,
+        rows.len() as u64,
+        w,
+    ) {
+        Spot::Nowhere => Truth::Refused(9),
+        Spot::Row(_, _, _) => Truth::Refused(9),
+        Spot::Page(a, n) => Truth::Is(write::mark(pages, a, n, o)),
+        Spot::Bad => Truth::Refused(3),
+    }
+}

@@ -1,0 +1,68 @@
+// The short way of both inserts, for the chunk that takes most ids: dense, with a direct entry, in an open set. It is small enough to be compiled into each call.
+ghost use mathlib.Core.Path.{_≡_};
+ghost use Prim.Native.Nat.{_^_, _≤_, _<_};
+ghost use lib.ListN.{getD};
+ghost use Rattle.layout.specs.Mem.{memOf};
+ghost use Rattle.inserts.specs.Ways.{Into, Short};
+use crate::gate;
+use crate::write;
+use layout::find;
+use layout::find::Spot;
+use layout::find::Word;
+use numbers::Split;
+use numbers::id as ids;
+use numbers::place as element;
+
+// The call is done, and this is its answer; or nothing is.
+pub enum Direct {
+    Is(bool),
+    Elsewhere,
+}
+
+// Offset o of chunk c. The first test leaves the search past the direct entries to the whole way.
+pub fn into(
+    pages: &mut [u64],
+    rows: &[u32],
+    blocks: &[u32],
+    table: &[u64],
+    s: u64,
+    c: u64,
+    o: u64,
+) -> Direct
+    requires { ⌜ (9 ≤ s) × (s ≤ 25) × (s ≡ getD (now table) 0 0) × (c < 2 ^ 62) × (o < 2 ^ s) ⌝ }
+    ensures { λ r. ⌜ Into (memOf (pages .entry) (rows .entry) (blocks .entry) (table .entry)) c o r (memOf (pages .exit) (rows .entry) (blocks .entry) (table .entry)) ⌝ }
+{
+    if element::at(table, 2) <= c {
+        return Direct::Elsewhere;
+    }
+    let Word::Is(w) = find::word_of(table, c) else {
+        return Direct::Elsewhere;
+    };
+    let Spot::Page(a, n) = find::spot_of(
+        s,
+        element::at(table, 1),
+        pages.len() as u64,
+        rows.len() as u64,
+        w,
+    ) else {
+        return Direct::Elsewhere;
+    };
+    Direct::Is(write::mark(pages, a, n, o))
+}
+
+// An id. The first test spares a test for each header word.
+pub fn put(pages: &mut [u64], rows: &[u32], blocks: &[u32], table: &[u64], id: i64) -> Direct
+    ensures { λ r. ⌜ Short (memOf (pages .entry) (rows .entry) (blocks .entry) (table .entry)) id r (memOf (pages .exit) (rows .entry) (blocks .entry) (table .entry)) ⌝ }
+{
+    if table.len() < 16 {
+        return Direct::Elsewhere;
+    }
+    if gate::refusal(table) != 0 {
+        return Direct::Elsewhere;
+    }
+    let s = element::at(table, 0);
+    let Split::At(c, o) = ids::split(id, s) else {
+        return Direct::Elsewhere;
+    };
+    into(pages, rows, blocks, table, s, c, o)
+}
