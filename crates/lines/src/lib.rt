@@ -1,4 +1,6 @@
 // A line of the program's input, read byte by byte: S, or an id. Of a line of any length three numbers are kept.
+pub mod words;
+
 ghost use mathlib.Core.Path.{_≡_};
 ghost use mathlib.Core.List.{List, [], _∷_, _++_};
 ghost use Prim.Native.Nat.{ℕ, _^_, _≤_};

@@ -1,0 +1,57 @@
+-- Each turn uses up one element, and the slice keeps its length. Assumes nothing.
+use mathlib.Core.Path.{_≡_, refl}
+use Prim.Native.Nat.{_-_}
+use borrow.Author.Needs.{needs}
+use native.Mathlib.Omega.{arith}
+use lib.ListN.{length}
+use Rattle.replay.proofs.say.boundaries.Statement.{statement}
+use Rattle.replay.proofs.say.boundaries.Tie as tie
+
+abbrev Inv-loop : tie.InvT-loop
+Inv-loop out₀ w bounds n now₀ k₀ out now k = length out ≡ length out₀
+
+abbrev μ-loop : tie.MeasureT-loop
+μ-loop out₀ w bounds n now₀ k₀ out now k = length bounds - k
+
+loop-holds : tie.Need-loop-holds Inv-loop μ-loop
+loop-holds c = refl
+
+mul-boundary : tie.Need-mul-boundary Inv-loop μ-loop
+mul-boundary c = search needs
+
+shared-slice-copy-out-boundary : tie.Need-shared-slice-copy-out-boundary Inv-loop μ-loop
+shared-slice-copy-out-boundary c = omega arith
+
+boundary-requires : tie.Need-boundary-requires Inv-loop μ-loop
+boundary-requires c κs = tt
+
+add-k : tie.Need-add-k Inv-loop μ-loop
+add-k c = omega arith
+
+loop-less : tie.Need-loop-less Inv-loop μ-loop
+loop-less c = omega arith
+
+loop-again : tie.Need-loop-again Inv-loop μ-loop
+loop-again c = search needs
+
+same-length : tie.Need-same-length Inv-loop μ-loop
+same-length c = search needs
+
+returns : tie.Need-returns Inv-loop μ-loop
+returns c = tt
+
+pub boundaries-spec : {M : Type 1} → statement M
+boundaries-spec =
+    tie.close
+    (tie.spec
+    Inv-loop
+    μ-loop
+    loop-holds
+    mul-boundary
+    shared-slice-copy-out-boundary
+    boundary-requires
+    add-k
+    loop-less
+    loop-again
+    same-length
+    returns)
