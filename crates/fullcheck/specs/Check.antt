@@ -9,7 +9,7 @@ use Rattle.sums.specs.Ids.{count}
 use Rattle.sums.specs.Rules.{allTo}
 use Rattle.dense.specs.Bits.{bitsTo}
 use Rattle.layout.specs.Mem.{Mem}
-use Rattle.layout.specs.Sizes.{InRange, top, wide, blocksOf, overAt, tableSize, head, modeAt, overCount, totalAt}
+use Rattle.layout.specs.Sizes.{InRange, top, wide, blocksOf, directAt, overAt, tableSize, head, modeAt, overCount, totalAt}
 use Rattle.layout.specs.Places.{isSparse, isDense, rowPart, pagePart, rowOwner, pageOwner}
 use Rattle.layout.specs.Entries.{entries, chunkAt, prefixAt, placeAt}
 use Rattle.layout.specs.Follows.{Owned, sizeOf}
