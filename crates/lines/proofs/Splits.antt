@@ -1,6 +1,6 @@
 -- Laws of words: what one byte of a line does to its words, and a word as a part of its line. Assumes nothing.
 use mathlib.Core.Path.{_≡_, refl, sym, _∙_, ap}
-use mathlib.Core.Bool.{Bool, true, false, cond}
+use mathlib.Core.Bool.{Bool, true, false, cond, _&&_}
 use mathlib.Core.List.{List, [], _∷_, _++_}
 use Prim.Native.Nat.{ℕ, zero, suc, _+_, _-_, _*_, _^_, _≤_, _<_}
 use native.Mathlib.Numerals.{add-one}
@@ -9,9 +9,11 @@ use lib.Dec.{ltb, eqb}
 use lib.ListN.{length, take, drop, getD, drop-of-length-le}
 use lib.Seq.{drop-cons, drop-drop, take-suc, take-all}
 use borrow.Author.Tests.{eq-eqb, ne-eqb, lt-ltb, le-ltb}
+use Rattle.lines.specs.Line.{sizeLine}
 use Rattle.lines.specs.Reader.{lineOf}
 use Rattle.lines.specs.declared.Line.{Line}
-use Rattle.lines.specs.Words.{firstWord, afterFirst, fromWord, wordAt, wordCount, packFrom, nameOf}
+use Rattle.lines.specs.declared.Said.{Said}
+use Rattle.lines.specs.Words.{firstWord, afterFirst, fromWord, wordAt, wordCount, packFrom, isNumber, areNumbers}
 
 -- ---- one byte
 
@@ -138,3 +140,34 @@ kept-more s i r h e = e ∙ ap lineOf (sym (take-suc s i 0 h) ∙ ap (λ (n : �
 
 pub kept-all : (s : List ℕ) (i : ℕ) (r : Line) → length s ≤ i → r ≡ lineOf (take i s) → r ≡ lineOf s
 kept-all s i r h e = e ∙ ap lineOf (take-all i s h)
+
+-- ---- numbers
+
+-- an answer that goes by what a word says
+pub told : {A : Type 0} (f : Said → A) {r k s : Said} → r ≡ k → r ≡ s → f k ≡ f s
+told f p q = ap f (sym p ∙ q)
+
+and-on : (a b c d : Bool) → b ≡ c → (a && (b && d)) ≡ ((a && c) && d)
+and-on true b c d e = ap (λ (x : Bool). x && d) e
+and-on false b c d e = refl
+
+and-true : (a : Bool) → (a && true) ≡ a
+and-true true = refl
+and-true false = refl
+
+numbers-next : (k j i : ℕ) (bs : List ℕ) → i ≡ suc k → areNumbers i j bs ≡ (isNumber (sizeLine (wordAt j bs)) && areNumbers k (j + 1) bs)
+unfolding areNumbers
+numbers-next k j i bs e = ap (λ (m : ℕ). areNumbers m j bs) e ∙ ap (λ (m : ℕ). isNumber (sizeLine (wordAt j bs)) && areNumbers k m bs) (sym (add-one j))
+
+pub numbers-step : (n i : ℕ) (bs : List ℕ) (ok is all : Bool) → i < n → is ≡ isNumber (sizeLine (wordAt i bs)) → (ok && areNumbers (n - i) i bs) ≡ all → ((ok && is) && areNumbers (n - (i + 1)) (i + 1) bs) ≡ all
+numbers-step n i bs ok is all h e q =
+    let k : n - i ≡ suc (n - (i + 1)) = omega arith in
+    sym (and-on ok (isNumber (sizeLine (wordAt i bs))) is (areNumbers (n - (i + 1)) (i + 1) bs) (sym e))
+    ∙ ap (λ (t : Bool). ok && t) (sym (numbers-next (n - (i + 1)) i (n - i) bs k))
+    ∙ q
+
+pub numbers-end : (n i : ℕ) (bs : List ℕ) (ok all : Bool) → n ≤ i → (ok && areNumbers (n - i) i bs) ≡ all → ok ≡ all
+unfolding areNumbers
+numbers-end n i bs ok all h q =
+    let k : n - i ≡ 0 = omega arith in
+    sym (and-true ok) ∙ sym (ap (λ (m : ℕ). ok && areNumbers m i bs) k) ∙ q

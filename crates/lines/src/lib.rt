@@ -1,4 +1,5 @@
 // A line of the program's input, read byte by byte: S, or an id. Of a line of any length three numbers are kept.
+pub mod signs;
 pub mod words;
 
 ghost use mathlib.Core.Path.{_≡_};

@@ -1,10 +1,11 @@
 // The words of a line, separated by single spaces: a name, then numbers and ids. An empty line has one word, which is empty.
+// As in the program of document 01 a number has 1 to 20 digits and fits a u64; an id has an optional minus and 1 to 19 digits and fits an i64. So leading zeros count as digits, -0 is an id and no number, and a plus is neither.
 ghost use mathlib.Core.Path.{_≡_};
-ghost use Prim.Native.Nat.{_+_, _≤_};
+ghost use Prim.Native.Nat.{_+_, _-_, _≤_};
 ghost use lib.ListN.{length, drop};
 ghost use Rattle.lines.specs.Line.{sizeLine, idLine};
 ghost use Rattle.lines.specs.Reader.{lineOf};
-ghost use Rattle.lines.specs.Words.{firstWord, fromWord, wordAt, wordCount, packFrom, nameOf};
+ghost use Rattle.lines.specs.Words.{firstWord, fromWord, wordAt, wordCount, packFrom, nameOf, isNumber, numberOr, areNumbers};
 use crate::Line;
 use crate::Said;
 
@@ -92,6 +93,40 @@ pub fn number(line: &[u8], j: u64) -> Said
     ensures { λ r. ⌜ r ≡ sizeLine (wordAt j (now (line .entry))) ⌝ }
 {
     crate::size_line(read(line, j))
+}
+
+// Word j as a number, d where it is none.
+pub fn number_or(line: &[u8], j: u64, d: u64) -> u64
+    ensures { λ r. ⌜ r ≡ numberOr d (sizeLine (wordAt j (now (line .entry)))) ⌝ }
+{
+    match number(line, j) {
+        Said::Number(n) => n,
+        Said::Id(_) => d,
+        Said::Bad => d,
+    }
+}
+
+fn is_number(line: &[u8], j: u64) -> bool
+    ensures { λ r. ⌜ r ≡ isNumber (sizeLine (wordAt j (now (line .entry)))) ⌝ }
+{
+    match number(line, j) {
+        Said::Number(_) => true,
+        Said::Id(_) => false,
+        Said::Bad => false,
+    }
+}
+
+// Whether the words from j to before n are numbers.
+pub fn are_numbers(line: &[u8], j: u64, n: u64) -> bool
+    ensures { λ r. ⌜ r ≡ areNumbers (n - j) j (now (line .entry)) ⌝ }
+{
+    let mut ok = true;
+    let mut i = j;
+    while i < n {
+        ok = ok & is_number(line, i);
+        i += 1;
+    }
+    ok
 }
 
 // Word j as an id.

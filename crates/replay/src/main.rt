@@ -1,13 +1,13 @@
 // Replays calls: one a line from standard input, one answer a line to standard output. Two sets, with pools of their own.
 mod input;
 mod memory;
-mod numerals;
 mod perform;
 mod pure;
 mod say;
 
 ghost use Prim.Native.Nat.{_<_};
 use input::Reading;
+use lines::words;
 
 // A line, on the set that it names, if it names one.
 fn obey(
@@ -28,7 +28,7 @@ fn obey(
     if pure::names(line) {
         return pure::call(line, out, w);
     }
-    match numerals::set(line) {
+    match words::number_or(line, 1, 2) {
         0 => perform::call(line, out, w, pages, rows, blocks, table, bounds),
         1 => perform::call(line, out, w, pages1, rows1, blocks1, table1, bounds1),
         _ => say::bad(out, w),

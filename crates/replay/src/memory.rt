@@ -1,6 +1,6 @@
 // The elements of a set's pools, one by one: to make memory that no call made, and to see what calls left.
-use crate::numerals;
 use crate::say;
+use lines::words;
 use numbers::order;
 use numbers::place;
 
@@ -38,12 +38,12 @@ pub fn poke(
     blocks: &mut [u32],
     table: &mut [u64],
 ) -> usize {
-    if !numerals::are(line, 2, 5) {
+    if !words::are_numbers(line, 2, 5) {
         return say::bad(out, w);
     }
-    let i = numerals::of(line, 3);
-    let v = numerals::of(line, 4);
-    match numerals::of(line, 2) {
+    let i = words::number_or(line, 3, 0);
+    let v = words::number_or(line, 4, 0);
+    match words::number_or(line, 2, 0) {
         0 => put(out, w, pages, i, v),
         1 => put32(out, w, rows, i, v),
         2 => put32(out, w, blocks, i, v),

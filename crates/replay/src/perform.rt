@@ -1,6 +1,5 @@
 // The calls on one set, whose pools are lent, by how many words a line has and by its first, packed (lines::words).
 use crate::memory;
-use crate::numerals;
 use crate::say;
 use cuts::interval;
 use cuts::plan::Plan;
@@ -176,15 +175,15 @@ fn set_up(
     blocks: &mut [u32],
     table: &mut [u64],
 ) -> usize {
-    if !numerals::are(line, 2, 8) {
+    if !words::are_numbers(line, 2, 8) {
         return say::bad(out, w);
     }
-    let s = numerals::of(line, 2);
-    let m = numerals::of(line, 3);
-    let d = numerals::of(line, 4);
-    let v = numerals::of(line, 5);
-    let r = numerals::of(line, 6);
-    let p = numerals::of(line, 7);
+    let s = words::number_or(line, 2, 0);
+    let m = words::number_or(line, 3, 0);
+    let d = words::number_or(line, 4, 0);
+    let v = words::number_or(line, 5, 0);
+    let r = words::number_or(line, 6, 0);
+    let p = words::number_or(line, 7, 0);
     say::outcome(
         out,
         w,
@@ -220,15 +219,15 @@ fn plan(
     table: &[u64],
     bounds: &mut [i64],
 ) -> usize {
-    if !numerals::are(line, 2, 4) {
+    if !words::are_numbers(line, 2, 4) {
         return say::bad(out, w);
     }
-    let room = numerals::of(line, 3) as usize;
+    let room = words::number_or(line, 3, 0) as usize;
     if bounds.len() < room {
         return say::bad(out, w);
     }
     planned(
-        numerals::of(line, 2),
+        words::number_or(line, 2, 0),
         out,
         w,
         pages,
@@ -252,19 +251,19 @@ fn partition(out: &mut [u8], w: usize, p: Plan, bounds: &[i64], k: u64) -> usize
 
 // `part K total S n room k`
 fn part(line: &[u8], out: &mut [u8], w: usize, bounds: &[i64]) -> usize {
-    if !numerals::are(line, 2, 7) {
+    if !words::are_numbers(line, 2, 7) {
         return say::bad(out, w);
     }
-    let room = numerals::of(line, 5) as usize;
+    let room = words::number_or(line, 5, 0) as usize;
     if bounds.len() < room {
         return say::bad(out, w);
     }
     let p = Plan {
-        total: numerals::of(line, 2),
-        slots: numerals::of(line, 3),
-        partitions: numerals::of(line, 4),
+        total: words::number_or(line, 2, 0),
+        slots: words::number_or(line, 3, 0),
+        partitions: words::number_or(line, 4, 0),
     };
-    partition(out, w, p, &bounds[0..room], numerals::of(line, 6))
+    partition(out, w, p, &bounds[0..room], words::number_or(line, 6, 0))
 }
 
 // The calls with more words than a set and an id.

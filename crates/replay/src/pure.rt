@@ -1,5 +1,4 @@
 // The calls that speak of no set.
-use crate::numerals;
 use crate::say;
 use lines::Said;
 use lines::words;
@@ -23,11 +22,11 @@ fn slots(line: &[u8], out: &mut [u8], w: usize) -> usize {
 
 // A claim, and two words that are numbers.
 fn bound(claim: i64, line: &[u8], out: &mut [u8], w: usize) -> usize {
-    if !numerals::are(line, 2, 4) {
+    if !words::are_numbers(line, 2, 4) {
         return say::bad(out, w);
     }
-    let len = numerals::of(line, 2);
-    let per = numerals::of(line, 3);
+    let len = words::number_or(line, 2, 0);
+    let per = words::number_or(line, 3, 0);
     let a = say::signed(out, w, budget::file_bounded_max_id(claim, len, per));
     say::newline(out, a)
 }

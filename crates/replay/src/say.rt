@@ -1,17 +1,13 @@
 // What is written: each function takes the bytes that wait, in `out`, and how many they are, and answers how many wait then.
-ghost use mathlib.Core.Path.{_≡_};
-ghost use lib.IntN.{natAbs};
 use cuts::plan::Plan;
 use cuts::plan::Ranks;
 use cuts::plan::Span;
 use exports::answer::Answer;
 use libc::STDOUT_FILENO;
+use lines::signs;
 
 // The smallest i64.
 const SMALLEST: i64 = -9223372036854775808;
-
-// 2 ^ 63
-const HALF: u64 = 9223372036854775808;
 
 // Writes what waits. Answers how many bytes wait then: none.
 pub fn flush(out: &[u8], w: usize) -> usize {
@@ -113,26 +109,13 @@ pub fn amount(out: &mut [u8], w: usize, a: Answer) -> usize {
     text(out, w, b"none\n")
 }
 
-// An id without its sign: 2 ^ 63 for the smallest.
-fn magnitude(z: i64) -> u64
-    ensures { λ r. ⌜ r ≡ natAbs z ⌝ }
-{
-    if z < 0 {
-        if SMALLEST < z {
-            return (0 - z) as u64;
-        }
-        return HALF;
-    }
-    z as u64
-}
-
 // An id.
 pub fn signed(out: &mut [u8], w: usize, z: i64) -> usize {
     if z < 0 {
         let a = text(out, w, b"-");
-        return number(out, a, magnitude(z));
+        return number(out, a, signs::magnitude(z));
     }
-    number(out, w, magnitude(z))
+    number(out, w, signs::magnitude(z))
 }
 
 // A space, and a number.

@@ -1,8 +1,8 @@
 -- A negative id goes by its magnitude, and only the smallest has none within i64. Assumes nothing.
 use borrow.Author.Needs.{needs}
-use Rattle.replay.proofs.Signs.{plain-casts, half-is, sub-fits, sub-casts, sub-is}
-use Rattle.replay.proofs.say.magnitude.Statement.{statement}
-use Rattle.replay.proofs.say.magnitude.Tie as tie
+use Rattle.lines.proofs.Magnitudes.{plain-casts, half-is, sub-fits, sub-casts, sub-is}
+use Rattle.lines.proofs.signs.magnitude.Statement.{statement}
+use Rattle.lines.proofs.signs.magnitude.Tie as tie
 
 sub-result : tie.Need-sub-result
 sub-result c = sub-fits (c .before .before .args .z) (c .before .before .fits .z) (c .before .if1 .taken) (c .if2 .taken)
