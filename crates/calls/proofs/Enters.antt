@@ -19,7 +19,7 @@ use Rattle.layout.specs.Follows.{Follows}
 use Rattle.layout.specs.declared.place.Place.{Place}
 use Rattle.layout.specs.declared.place.Place.the-variants.{Sparse}
 use Rattle.layout_laws.proofs.Entries.{laid-ordered, word-of-none}
-use Rattle.steps.specs.Writes.{putWord, putRow}
+use Rattle.layout.specs.Writes.{putWord, putRow}
 use Rattle.steps.specs.Steps.{rowed}
 use Rattle.steps.specs.Effects.{RowFor, Becomes}
 use Rattle.steps.proofs.Words.{put-word}

@@ -21,7 +21,7 @@ use Rattle.layout_laws.proofs.Entries.{laid-ordered}
 use Rattle.layout_laws.proofs.Sizes.{wide-top, page-length}
 use Rattle.layout_laws.proofs.Walked.{laid-walked}
 use Rattle.layout_laws.proofs.Owners.{page-of}
-use Rattle.steps.specs.Writes.{putPart, putWord, putPageOwner}
+use Rattle.layout.specs.Writes.{putPart, putWord, putPageOwner}
 use Rattle.steps.specs.Steps.{paged}
 use Rattle.steps.specs.Effects.{PageFor, Becomes}
 use Rattle.steps.proofs.Paged.{paged-becomes}

@@ -20,7 +20,7 @@ use Rattle.layout.specs.declared.place.Place.the-variants.{Absent, Sparse, Dens
 use Rattle.layout_laws.proofs.Entries.{laid-ordered}
 use Rattle.layout_laws.proofs.Short.{owned-of}
 use Rattle.layout_laws.proofs.Walked.{laid-walked}
-use Rattle.steps.specs.Writes.{putWord}
+use Rattle.layout.specs.Writes.{putWord}
 use Rattle.steps.specs.Steps.{paged, leftOwner}
 use Rattle.steps.specs.Effects.{EntryFor}
 use Rattle.steps.proofs.Table.{Worded}

@@ -26,7 +26,7 @@ use Rattle.layout_laws.specs.Chunks
 use Rattle.layout_laws.proofs.Entries.{Ordered, word-direct, word-of-direct}
 use Rattle.layout_laws.proofs.Short.{over-word-is, word-in-is, spot-is}
 use Rattle.layout_laws.proofs.Walked.{laid-walked}
-use Rattle.steps.specs.Writes.{overPut, putWord}
+use Rattle.layout.specs.Writes.{overPut, putWord}
 use Rattle.calls.specs.Reading.{shiftOk}
 use Rattle.calls.specs.Insert.{planBegin, planTurn, planSpot, planWord, planSplit, planBy, preparedSpot, preparedSplit, preparedPlan}
 use Rattle.calls.specs.declared.plan.Plan.the-variants.{Refuse, Begin, Turn}

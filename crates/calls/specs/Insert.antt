@@ -27,7 +27,7 @@ use Rattle.layout.specs.declared.find.Word.{Word}
 use Rattle.layout.specs.declared.find.Word.the-variants as word
 use Rattle.layout.specs.declared.find.Spot.{Spot}
 use Rattle.layout.specs.declared.find.Spot.the-variants.{Nowhere, Row, Page, Bad}
-use Rattle.steps.specs.Writes.{putPart, putWord}
+use Rattle.layout.specs.Writes.{putPart, putWord}
 use Rattle.steps.specs.Steps.{rowed, paged}
 use Rattle.calls.specs.Reading.{shiftOk, spotBy, spotIf}
 use Rattle.calls.specs.declared.plan.Plan.{Plan}

@@ -12,7 +12,7 @@ use Rattle.layout.specs.Places.{encoded, rowPart, pagePart}
 use Rattle.layout.specs.declared.head.Header.{Header}
 use Rattle.layout.specs.declared.place.Place.the-variants.{Sparse, Dense}
 use Rattle.layout.specs.declared.answer.Truth.the-variants as truth
-use Rattle.steps.specs.Writes.{putPart, putWord, putRowOwner, putPageOwner, putRow}
+use Rattle.layout.specs.Writes.{putPart, putWord, putRowOwner, putPageOwner, putRow}
 use Rattle.steps.specs.Steps.{rowed, paged}
 use Rattle.steps.proofs.Lent.{span, put-lent}
 use Rattle.calls.specs.Insert.{actBy, answerOf, Told, told}

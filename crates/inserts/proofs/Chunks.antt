@@ -12,7 +12,7 @@ use Rattle.layout.specs.declared.find.Word.{Word}
 use Rattle.layout.specs.declared.find.Word.the-variants as word
 use Rattle.layout.specs.declared.find.Spot.{Spot}
 use Rattle.layout.specs.declared.find.Spot.the-variants.{Page}
-use Rattle.steps.specs.Writes.{putPart}
+use Rattle.layout.specs.Writes.{putPart}
 use Rattle.calls.specs.Reading.{spotBy, spotIf}
 use Rattle.calls.specs.Insert.{planSpot, planWord, preparedSpot, told}
 use Rattle.inserts.specs.Ways.{acted}

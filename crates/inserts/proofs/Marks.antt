@@ -13,7 +13,7 @@ use Rattle.dense.specs.Bits.{digit, bit, isSet, withBit}
 use Rattle.dense.proofs.Bits.{isSet-one}
 use Rattle.layout.specs.Mem.{mem}
 use Rattle.layout.specs.declared.answer.Truth.the-variants as truth
-use Rattle.steps.specs.Writes.{putPart}
+use Rattle.layout.specs.Writes.{putPart}
 use Rattle.calls.specs.Insert.{told}
 use Rattle.calls.specs.declared.plan.Plan.the-variants.{Known, Mark}
 use Rattle.inserts.specs.Ways.{acted}

@@ -10,7 +10,7 @@ ghost use Rattle.layout.specs.Mem.{mem};
 ghost use Rattle.layout.specs.Sizes.{InRange, top, wide, headerAt, overCount};
 ghost use Rattle.layout.specs.Places.{encoded, rowPart, pagePart};
 ghost use Rattle.layout.specs.declared.place.Place.the-variants.{Sparse};
-ghost use Rattle.steps.specs.Writes.{putPart, putWord, putRowOwner, putRow};
+ghost use Rattle.layout.specs.Writes.{putPart, putWord, putRowOwner, putRow};
 ghost use Rattle.calls.specs.Insert.{answerOf, actBy, told};
 ghost use Rattle.insert_plan.specs.Ready.{Ready};
 use calls::plan::Plan;
@@ -18,9 +18,9 @@ use layout::answer::Truth;
 use layout::head;
 use layout::head::Header;
 use layout::place;
+use layout::write;
 use numbers::power;
 use steps::turn;
-use steps::write;
 
 // A bit of a page of n words from a on, and whether it was clear.
 pub fn mark(pages: &mut [u64], a: usize, n: usize, o: u64) -> bool

@@ -8,3 +8,6 @@ pub mod Fills
 pub mod SetUps
 pub mod Seats
 pub mod Free
+pub mod Parts
+pub mod Added
+pub mod Gaps

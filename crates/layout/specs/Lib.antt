@@ -9,3 +9,4 @@ pub mod SetUp
 pub mod Short
 pub mod Seat
 pub mod Free
+pub mod Writes

@@ -8,3 +8,4 @@ pub mod place;
 pub mod seat;
 pub mod setup;
 pub mod walk;
+pub mod write;

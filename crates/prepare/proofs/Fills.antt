@@ -8,7 +8,7 @@ use Rattle.dense.specs.Bits.{withRow}
 use Rattle.layout.specs.Sizes.{top, wide}
 use Rattle.layout.specs.Places.{rowPart, pagePart}
 use Rattle.layout.specs.declared.head.Header.{Header}
-use Rattle.steps.specs.Writes.{putPart}
+use Rattle.layout.specs.Writes.{putPart}
 use Rattle.steps.proofs.Lent.{span, put-lent}
 
 -- page p with the members of row r

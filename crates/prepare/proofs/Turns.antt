@@ -15,7 +15,7 @@ use Rattle.layout.specs.declared.place.Place.{Place}
 use Rattle.layout.specs.declared.place.Place.the-variants.{Absent, Sparse, Dense}
 use Rattle.layout.specs.declared.find.Word.{Word}
 use Rattle.layout.specs.declared.find.Word.the-variants as word
-use Rattle.steps.specs.Writes.{putPart, putWord, putRowOwner, putPageOwner, putRow}
+use Rattle.layout.specs.Writes.{putPart, putWord, putRowOwner, putPageOwner, putRow}
 use Rattle.steps.specs.Steps.{paged}
 use Rattle.calls.specs.Prepare.{Work, work, intoPage, intoFree, densed, densedWord}
 use Rattle.prepare.specs.Ready.{RowInside, WordInside}

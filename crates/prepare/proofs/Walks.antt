@@ -19,9 +19,9 @@ use Rattle.layout.specs.declared.place.Place.the-variants.{Absent, Sparse, Dens
 use Rattle.layout.proofs.Places.{decoded-encoded-dense}
 use Rattle.layout_laws.proofs.Entries.{walked-ordered, chunk-over, chunk-below, chunk-rising}
 use Rattle.layout_laws.proofs.Short.{owned-of}
-use Rattle.steps.specs.Writes.{putWord}
+use Rattle.layout.specs.Writes.{putWord}
 use Rattle.steps.specs.Steps.{leftOwner, leftRow, paged}
-use Rattle.steps.proofs.Parts.{slot-in, length-put}
+use Rattle.layout.proofs.Parts.{slot-in, length-put}
 use Rattle.steps.proofs.Puts.{put-rising, put-all}
 use Rattle.steps.proofs.Table.{runOf, Wrote, Worded, owner-set}
 use Rattle.steps.proofs.Words.{put-word}

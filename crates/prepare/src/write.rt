@@ -9,7 +9,7 @@ ghost use Rattle.layout.specs.Sizes.{InRange, top, wide, headerAt, overCount};
 ghost use Rattle.layout.specs.Places.{encoded, rowPart, pagePart};
 ghost use Rattle.layout.specs.Short.{wordIn};
 ghost use Rattle.layout.specs.declared.place.Place.the-variants.{Absent, Sparse, Dense};
-ghost use Rattle.steps.specs.Writes.{putPart, putWord, putPageOwner};
+ghost use Rattle.layout.specs.Writes.{putPart, putWord, putPageOwner};
 ghost use Rattle.calls.specs.Prepare.{work, densed, densedWord, densedTo, overNeeded};
 ghost use Rattle.prepare.specs.Ready.{Sound, Fillable, Turnable};
 use layout::find;
@@ -19,9 +19,9 @@ use layout::head::Header;
 use layout::owners;
 use layout::place;
 use layout::place::Place;
+use layout::write;
 use numbers::power;
 use steps::turn;
-use steps::write;
 
 // Page p gets the l members of row r.
 pub fn fill_page(pages: &mut [u64], rows: &[u32], h: Header, r: u64, l: usize, p: u64)

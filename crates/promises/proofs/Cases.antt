@@ -27,7 +27,7 @@ use Rattle.layout.specs.Tests.{inRange, roomy, keyIs, placeIs, headIs, tableIs,
 use Rattle.layout.specs.SetUp.{zeroed, freshTable, fresh, setUpBy}
 use Rattle.layout.specs.Short.{lowerKey, wordIn, spotOf}
 use Rattle.layout.proofs.Tests.{range-of, room-of}
-use Rattle.steps.specs.Writes.{putPart, added, putWord}
+use Rattle.layout.specs.Writes.{putPart, added, putWord}
 use Rattle.steps.specs.Steps.{rowed, paged}
 use Rattle.calls.specs.Insert.{firstFree, planBy, insertBy, preparedPlan, preparedBy}
 use Rattle.calls.specs.Prepare.{densedTo, overNeeded, pagesNeeded, prepareBy}

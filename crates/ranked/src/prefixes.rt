@@ -11,8 +11,8 @@ use crate::blocks;
 use layout::entry;
 use layout::head::Header;
 use layout::place::Place;
+use layout::write;
 use numbers::place as element;
-use steps::write;
 
 // How many entries there are.
 pub fn entry_count(table: &[u64], h: Header) -> u64

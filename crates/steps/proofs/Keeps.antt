@@ -27,7 +27,8 @@ use Rattle.layout_laws.proofs.Entries.{chunk-over, word-over, chunk-direct, Whi
 use Rattle.layout_laws.proofs.Short.{owned-of}
 use Rattle.layout_laws.proofs.Walked.{laid-walked}
 use Rattle.steps.specs.Effects.{Open, Becomes}
-use Rattle.steps.proofs.Puts.{same-or, put-rising, put-all, put-zero, put-sum, put-beside, put-beside-off}
+use Rattle.layout.proofs.Added.{same-or}
+use Rattle.steps.proofs.Puts.{put-rising, put-all, put-zero, put-sum, put-beside, put-beside-off}
 use Rattle.steps.proofs.Table.{runOf, Wrote, header-kept}
 
 -- a place whose slot is as it was

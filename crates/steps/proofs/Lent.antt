@@ -8,7 +8,7 @@ use lib.Seq.{drop-drop, drop-length}
 use Rattle.sparse.specs.Edit.{cleared}
 use Rattle.layout.specs.Places.{rowPart}
 use Rattle.layout.specs.declared.head.Header.{Header}
-use Rattle.steps.specs.Writes.{putPart, putRow}
+use Rattle.layout.specs.Writes.{putPart, putRow}
 
 pub span : (a n : ℕ) → a + n - a ≡ n
 span a n = omega arith

@@ -1,4 +1,3 @@
-pub mod Parts
 pub mod Puts
 pub mod Table
 pub mod Words
@@ -6,5 +5,4 @@ pub mod Keeps
 pub mod Slots
 pub mod Rowed
 pub mod Paged
-pub mod Gaps
 pub mod Lent

@@ -25,11 +25,11 @@ use Rattle.layout_laws.proofs.Entries.{laid-ordered}
 use Rattle.layout_laws.proofs.Owners.{page-of}
 use Rattle.layout_laws.proofs.Short.{owned-of}
 use Rattle.layout_laws.proofs.Walked.{laid-walked}
-use Rattle.steps.specs.Writes.{putPart, putWord, putRowOwner}
+use Rattle.layout.specs.Writes.{putPart, putWord, putRowOwner}
 use Rattle.steps.specs.Steps.{leftOwner, leftRow, paged}
 use Rattle.steps.specs.Effects.{PageFor, new-page, own-page, PagedOk, Becomes}
-use Rattle.steps.proofs.Parts.{slot-in, length-put, slot-put, slot-kept, zero-kept, zero-put}
-use Rattle.steps.proofs.Puts.{same-or}
+use Rattle.layout.proofs.Parts.{slot-in, length-put, slot-put, slot-kept, zero-kept, zero-put}
+use Rattle.layout.proofs.Added.{same-or}
 use Rattle.steps.proofs.Table.{Wrote, Worded, owner-set}
 use Rattle.steps.proofs.Words.{put-word}
 use Rattle.steps.proofs.Slots.{entry-free, entry-none, taken, not-taken, used-change}

@@ -10,6 +10,7 @@ use Rattle.sums.specs.Sums.{sumTo}
 use Rattle.sums.proofs.Sums.{Inserted, sum-change, sum-insert}
 use Rattle.sparse.specs.Row.{Rising}
 use Rattle.layout.specs.Entries.{beside}
+use Rattle.layout.proofs.Added.{same-or}
 use Rattle.layout_laws.proofs.Keys.{Cut, rising-apart, beside-none, beside-at}
 
 pub record Run : Type 0 where
@@ -40,13 +41,6 @@ pub record Added (a b : Run) (k c w : ℕ) : Type 0 where
 pub data Put (a b : Run) (c w : ℕ) : Type 0 where
   changed : (e : ℕ) → Changed a b e c w → Put a b c w
   added : (k : ℕ) → Added a b k c w → Put a b c w
-
-pub same-or : (a b : ℕ) → (a ≡ b) ⊎ (a ≢ b)
-same-or a b = go (eqb a b) refl
-  where
-    go : (t : Bool) → eqb a b ≡ t → (a ≡ b) ⊎ (a ≢ b)
-    go true e = inl (eqb-true a b e)
-    go false e = inr (eqb-false a b e)
 
 -- where j stands, seen from k
 pub data Spot (k j : ℕ) : Type 0 where

@@ -24,11 +24,11 @@ use Rattle.layout.proofs.Places.{decoded-encoded-sparse}
 use Rattle.layout_laws.proofs.Entries.{laid-ordered}
 use Rattle.layout_laws.proofs.Owners.{row-of}
 use Rattle.layout_laws.proofs.Walked.{laid-walked}
-use Rattle.steps.specs.Writes.{putWord, putRow}
+use Rattle.layout.specs.Writes.{putWord, putRow}
 use Rattle.steps.specs.Steps.{rowed}
 use Rattle.steps.specs.Effects.{RowFor, new-row, own-row, RowedOk, Becomes}
-use Rattle.steps.proofs.Parts.{slot-in, length-put, slot-put, slot-kept, zero-kept}
-use Rattle.steps.proofs.Puts.{same-or}
+use Rattle.layout.proofs.Parts.{slot-in, length-put, slot-put, slot-kept, zero-kept}
+use Rattle.layout.proofs.Added.{same-or}
 use Rattle.steps.proofs.Table.{Worded, owner-set}
 use Rattle.steps.proofs.Words.{put-word}
 use Rattle.steps.proofs.Slots.{entry-free, entry-none, taken, not-taken, used-change}

@@ -18,8 +18,8 @@ use Rattle.layout_laws.proofs.Keys.{Cut, cut-missed}
 use Rattle.layout_laws.proofs.Halving.{lower-first}
 use Rattle.layout_laws.proofs.Entries.{chunk-direct, word-direct, prefix-direct, chunk-over, word-over, prefix-over, Which, direct, over, which, Ordered}
 use Rattle.layout_laws.proofs.Short.{over-rising}
-use Rattle.steps.specs.Writes.{putPart, added, addedIf, overPut, putWord}
-use Rattle.steps.proofs.Parts.{length-put, put-in, put-off}
+use Rattle.layout.specs.Writes.{putPart, added, addedIf, overPut, putWord}
+use Rattle.layout.proofs.Added.{added-length, added-over, added-low, added-high, added-chunk, added-word, added-prefix, added-up}
 use Rattle.steps.proofs.Puts as puts
 use Rattle.steps.proofs.Table.{Worded, word-set}
 
@@ -51,80 +51,7 @@ module _ (h : Header) (t : List ℕ) (c k : ℕ) (ge : h .d ≤ c) (cut : Cut (�
 
 -- ---- a new overflow entry
 
--- the entries from k on, behind the new one
-moved : Header → List ℕ → ℕ → ℕ → ℕ → List ℕ
-moved h t c w k = c ∷ w ∷ 0 ∷ take (3 * (overCount t - k)) (drop (overAt h k) t)
-
 module _ (h : Header) (t : List ℕ) (c w k : ℕ) (le : k ≤ overCount t) (room : overAt h (overCount t + 1) ≤ length t) where
-  pushed : List ℕ
-  pushed = putPart t (overAt h k) (3 * (overCount t - k) + 3) (moved h t c w k)
-
-  added-is : added h t c w k ≡ set pushed 7 (overCount t + 1)
-  unfolding added pushed putPart moved
-  added-is =
-      let e : overAt h (overCount t + 1) ≡ overAt h k + (3 * (overCount t - k) + 3) = omega arith in
-      ap (λ (i : ℕ). set (take (overAt h k) t ++ (c ∷ w ∷ 0 ∷ (take (3 * (overCount t - k)) (drop (overAt h k) t) ++ drop i t))) 7 (overCount t + 1)) e
-
-  long : length (moved h t c w k) ≡ 3 * (overCount t - k) + 3
-  unfolding moved
-  long =
-      let d = length-drop (overAt h k) t in
-      let e = length-take-le (3 * (overCount t - k)) (drop (overAt h k) t) (omega arith) in
-      omega arith
-
-  whole : overAt h k + (3 * (overCount t - k) + 3) ≤ length t
-  whole = omega arith
-
-  read : (i : ℕ) → i ≢ 7 → getD (added h t c w k) i 0 ≡ getD pushed i 0
-  read i d = ap (λ (u : List ℕ). getD u i 0) added-is ∙ getD-set-other pushed 7 i (overCount t + 1) 0 d
-
-  pub added-length : length (added h t c w k) ≡ length t
-  unfolding pushed
-  added-length = ap length added-is ∙ length-set pushed 7 (overCount t + 1) ∙ length-put t (overAt h k) (3 * (overCount t - k) + 3) (moved h t c w k) long whole
-
-  pub added-over : overCount (added h t c w k) ≡ overCount t + 1
-  unfolding pushed
-  added-over =
-      ap overCount added-is
-      ∙ getD-set-same pushed 7 (overCount t + 1) 0 (let n = length-put t (overAt h k) (3 * (overCount t - k) + 3) (moved h t c w k) long whole in omega arith)
-
-  pub added-low : (i : ℕ) → i ≢ 7 → i < overAt h k → getD (added h t c w k) i 0 ≡ getD t i 0
-  unfolding pushed
-  added-low i d l = read i d ∙ put-off t (overAt h k) (3 * (overCount t - k) + 3) (moved h t c w k) long whole i (inl l)
-
-  pub added-high : (i : ℕ) → overAt h (overCount t + 1) ≤ i → getD (added h t c w k) i 0 ≡ getD t i 0
-  unfolding pushed
-  added-high i l = read i (omega arith) ∙ put-off t (overAt h k) (3 * (overCount t - k) + 3) (moved h t c w k) long whole i (inr (omega arith))
-
-  added-in : (j i : ℕ) → i ≡ overAt h k + j → j < 3 * (overCount t - k) + 3 → getD (added h t c w k) i 0 ≡ getD (moved h t c w k) j 0
-  unfolding pushed
-  added-in j i e l =
-      read i (omega arith) ∙ ap (λ (n : ℕ). getD pushed n 0) e ∙ put-in t (overAt h k) (3 * (overCount t - k) + 3) (moved h t c w k) long whole j l
-
-  pub added-chunk : getD (added h t c w k) (overAt h k) 0 ≡ c
-  unfolding moved
-  added-chunk = added-in 0 (overAt h k) (omega arith) (omega arith)
-
-  pub added-word : getD (added h t c w k) (overAt h k + 1) 0 ≡ w
-  unfolding moved
-  added-word = added-in 1 (overAt h k + 1) (omega arith) (omega arith)
-
-  pub added-prefix : getD (added h t c w k) (overAt h k + 2) 0 ≡ 0
-  unfolding moved
-  added-prefix = added-in 2 (overAt h k + 2) (omega arith) (omega arith)
-
-  -- each element of the later entries is three further on
-  pub added-up : (i n : ℕ) → overAt h k ≤ i → i < overAt h (overCount t) → n ≡ i + 3 → getD (added h t c w k) n 0 ≡ getD t i 0
-  unfolding moved
-  added-up i n a b q =
-      let j = i - overAt h k in
-      let e : n ≡ overAt h k + suc (suc (suc j)) = omega arith in
-      let g : overAt h k + j ≡ i = omega arith in
-      added-in (suc (suc (suc j))) n e (omega arith)
-      ∙ getD-take (3 * (overCount t - k)) (drop (overAt h k) t) j 0 (omega arith)
-      ∙ getD-drop (overAt h k) t j 0
-      ∙ ap (λ (i : ℕ). getD t i 0) g
-
   -- a column of the directory, whose overflow part stands at place
   column : (f g place : ℕ → ℕ) (q v : ℕ) → q < 3 → ((j : ℕ) → place j ≡ overAt h j + q) → ((j : ℕ) → f (h .d + j) ≡ getD t (place j) 0) → ((j : ℕ) → g (h .d + j) ≡ getD (added h t c w k) (place j) 0) →
       ((j : ℕ) → j < h .d → g j ≡ f j) → getD (added h t c w k) (place k) 0 ≡ v → Inserted f g (h .d + k) (entries h t) v
@@ -138,29 +65,29 @@ module _ (h : Header) (t : List ℕ) (c w k : ℕ) (le : k ≤ overCount t) (roo
     where
       below : (j : ℕ) → j < h .d + k → Which (h .d) j → g j ≡ f j
       below j l (direct m) = low j m
-      below j l (over i e) = ap g e ∙ g-over i ∙ added-low (place i) (omega (arith, where-is i)) (omega (arith, where-is i)) ∙ sym (ap f e ∙ f-over i)
+      below j l (over i e) = ap g e ∙ g-over i ∙ (added-low h t c w k le room) (place i) (omega (arith, where-is i)) (omega (arith, where-is i)) ∙ sym (ap f e ∙ f-over i)
 
       above : (j : ℕ) → h .d + k ≤ j → j < entries h t → Which (h .d) j → g (suc j) ≡ f j
       above j l m (direct n) = absurd (omega arith)
       above j l m (over i e) =
           let u : suc j ≡ h .d + suc i = omega arith in
           ap g u ∙ g-over (suc i)
-          ∙ added-up (place i) (place (suc i)) (omega (arith, where-is i)) (omega (arith, where-is i)) (omega (arith, where-is i, where-is (suc i)))
+          ∙ (added-up h t c w k le room) (place i) (place (suc i)) (omega (arith, where-is i)) (omega (arith, where-is i)) (omega (arith, where-is i, where-is (suc i)))
           ∙ sym (ap f e ∙ f-over i)
 
   module _ (free : overCount t < h .v) (ge : h .d ≤ c) (cut : Cut (λ (j : ℕ). getD t (overAt h j) 0) (overCount t) k c) (none : (j : ℕ) → j < overCount t → getD t (overAt h j) 0 ≢ c) where
     pub entry-added : Worded h t (added h t c w k) c w
     entry-added =
         let t′ = added h t c w k in
-        let n = added-over in
+        let n = (added-over h t c w k le room) in
         record {
           wrote =
               record {
-                len = added-length;
-                header = λ i l d. added-low i d (omega arith);
+                len = (added-length h t c w k le room);
+                header = λ i l d. (added-low h t c w k le room) i d (omega arith);
                 more = omega arith;
                 fits = omega arith;
-                spare = λ i a b. added-high i (omega arith);
+                spare = λ i a b. (added-high h t c w k le room) i (omega arith);
                 put =
                     puts.added (h .d + k)
                     (record {
@@ -169,16 +96,16 @@ module _ (h : Header) (t : List ℕ) (c w k : ℕ) (le : k ≤ overCount t) (roo
                       size = let e : h .d + overCount t′ ≡ suc (h .d + overCount t) = omega arith in e;
                       keys =
                           column (chunkAt h t) (chunkAt h t′) (λ (j : ℕ). overAt h j) 0 c (omega arith) (λ j. omega arith) (chunk-over h t) (chunk-over h t′)
-                          (λ j l. chunk-direct h t′ j l ∙ sym (chunk-direct h t j l)) added-chunk;
+                          (λ j l. chunk-direct h t′ j l ∙ sym (chunk-direct h t j l)) (added-chunk h t c w k le room);
                       words =
                           column (wordAt h t) (wordAt h t′) (λ (j : ℕ). overAt h j + 1) 1 w (omega arith) (λ j. omega arith) (word-over h t) (word-over h t′)
-                          (λ j l. word-direct h t′ j l ∙ added-low (directAt j) (omega arith) (omega arith) ∙ sym (word-direct h t j l)) added-word;
+                          (λ j l. word-direct h t′ j l ∙ (added-low h t c w k le room) (directAt j) (omega arith) (omega arith) ∙ sym (word-direct h t j l)) (added-word h t c w k le room);
                       prefixes =
                           column (prefixAt h t) (prefixAt h t′) (λ (j : ℕ). overAt h j + 2) 2 0 (omega arith) (λ j. omega arith) (prefix-over h t) (prefix-over h t′)
-                          (λ j l. prefix-direct h t′ j l ∙ added-low (directAt j + 1) (omega arith) (omega arith) ∙ sym (prefix-direct h t j l)) added-prefix;
+                          (λ j l. prefix-direct h t′ j l ∙ (added-low h t c w k le room) (directAt j + 1) (omega arith) (omega arith) ∙ sym (prefix-direct h t j l)) (added-prefix h t c w k le room);
                     });
               };
-          owners = λ i l. added-high i (omega arith);
+          owners = λ i l. (added-high h t c w k le room) i (omega arith);
         }
 
 -- ---- all three

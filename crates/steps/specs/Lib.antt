@@ -1,3 +1,2 @@
-pub mod Writes
 pub mod Steps
 pub mod Effects

@@ -8,7 +8,7 @@ use Rattle.layout.specs.Places.{encoded}
 use Rattle.layout.specs.declared.head.Header.{Header}
 use Rattle.layout.specs.declared.place.Place.{Place}
 use Rattle.layout.specs.declared.place.Place.the-variants.{Absent, Sparse, Dense}
-use Rattle.steps.specs.Writes.{putPart, putWord, putRowOwner, putPageOwner, putRow}
+use Rattle.layout.specs.Writes.{putPart, putWord, putRowOwner, putPageOwner, putRow}
 
 -- chunk c stands in row r, which now is the list row with l members
 unfoldable pub rowed : Header → Mem → ℕ → ℕ → ℕ → List ℕ → Mem

@@ -1,3 +1,2 @@
 // Writes to the table, which every writing call is made of.
 pub mod turn;
-pub mod write;

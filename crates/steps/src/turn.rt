@@ -5,11 +5,11 @@ ghost use lib.ListN.{length, replicate};
 ghost use Rattle.layout.specs.Sizes.{InRange, overCount};
 ghost use Rattle.layout.specs.Places.{encoded};
 ghost use Rattle.layout.specs.declared.place.Place.the-variants.{Dense};
-ghost use Rattle.steps.specs.Writes.{putWord, putRowOwner, putPageOwner, putRow};
-use crate::write;
+ghost use Rattle.layout.specs.Writes.{putWord, putRowOwner, putPageOwner, putRow};
 use layout::head;
 use layout::head::Header;
 use layout::place;
+use layout::write;
 
 // Row r is free again: filled with zeros.
 pub fn free_row(rows: &mut [u32], h: Header, r: u64)

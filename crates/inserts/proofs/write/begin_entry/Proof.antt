@@ -2,7 +2,7 @@
 use mathlib.Core.Path.{_∙_, ap}
 use mathlib.Core.List.{List}
 use Prim.Native.Nat.{ℕ, _+_}
-use Rattle.steps.specs.Writes.{putWord, putRowOwner}
+use Rattle.layout.specs.Writes.{putWord, putRowOwner}
 use borrow.Author.Needs.{needs}
 use Rattle.inserts.proofs.write.begin_entry.Statement.{statement}
 use Rattle.inserts.proofs.write.begin_entry.Tie as tie

@@ -4,7 +4,7 @@ use mathlib.Core.List.{List}
 use Prim.Native.Nat.{ℕ, _+_, _≤_}
 use native.Mathlib.Omega.{arith}
 use lib.ListN.{length}
-use Rattle.steps.proofs.Parts.{slot-in}
+use Rattle.layout.proofs.Parts.{slot-in}
 use Rattle.sparse.specs.Edit.{insertedAt}
 use Rattle.steps.proofs.Lent.{put-lent}
 use borrow.Author.Needs.{needs}

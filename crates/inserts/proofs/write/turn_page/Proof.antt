@@ -4,7 +4,7 @@ use native.Mathlib.Omega.{arith}
 use lib.ListN.{length, take, drop}
 use Rattle.numbers.proofs.Powers.{powers}
 use Rattle.layout.specs.Sizes.{top, wide}
-use Rattle.steps.proofs.Parts.{slot-in}
+use Rattle.layout.proofs.Parts.{slot-in}
 use Rattle.idset.proofs.Spots.{length-part}
 use Rattle.inserts.proofs.Acts.{turn-put}
 use borrow.Author.Needs.{needs}

@@ -2,7 +2,7 @@
 use mathlib.Core.Path.{_∙_, ap}
 use mathlib.Core.List.{List}
 use Prim.Native.Nat.{ℕ, _+_}
-use Rattle.steps.specs.Writes.{putWord, putPageOwner}
+use Rattle.layout.specs.Writes.{putWord, putPageOwner}
 use borrow.Author.Needs.{needs}
 use Rattle.prepare.proofs.write.enter_page.Statement.{statement}
 use Rattle.prepare.proofs.write.enter_page.Tie as tie

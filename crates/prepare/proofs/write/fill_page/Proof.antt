@@ -4,7 +4,7 @@ use native.Mathlib.Omega.{arith}
 use lib.ListN.{length, take, drop}
 use Rattle.numbers.proofs.Powers.{powers}
 use Rattle.layout.specs.Sizes.{top, wide}
-use Rattle.steps.proofs.Parts.{slot-in}
+use Rattle.layout.proofs.Parts.{slot-in}
 use Rattle.steps.proofs.Lent.{length-lent}
 use Rattle.prepare.proofs.Fills.{fill-put}
 use borrow.Author.Needs.{needs}

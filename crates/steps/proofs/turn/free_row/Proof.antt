@@ -2,7 +2,7 @@
 use Prim.Native.Nat.{_+_, _≤_}
 use native.Mathlib.Omega.{arith}
 use lib.ListN.{length}
-use Rattle.steps.proofs.Parts.{slot-in}
+use Rattle.layout.proofs.Parts.{slot-in}
 use Rattle.steps.proofs.Lent.{free-put}
 use borrow.Author.Needs.{needs}
 use Rattle.steps.proofs.turn.free_row.Statement.{statement}

@@ -2,7 +2,7 @@
 use mathlib.Core.Path.{_∙_, ap}
 use mathlib.Core.List.{List}
 use Prim.Native.Nat.{ℕ, _+_}
-use Rattle.steps.specs.Writes.{putWord, putRowOwner, putPageOwner}
+use Rattle.layout.specs.Writes.{putWord, putRowOwner, putPageOwner}
 use borrow.Author.Needs.{needs}
 use Rattle.steps.proofs.turn.turn_entry.Statement.{statement}
 use Rattle.steps.proofs.turn.turn_entry.Tie as tie

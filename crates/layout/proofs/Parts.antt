@@ -10,8 +10,8 @@ use lib.ListN.{length, getD, take, drop, replicate, length-append, length-take, 
 use lib.Seq.{length-take-le, take-at, drop-at, getD-append-add, getD-take, getD-drop, ext-getD}
 use lib.Dec.{ltb}
 use borrow.Author.Tests.{ltb-true, ltb-false}
 use Rattle.layout.specs.Follows.{AllZero}
-use Rattle.steps.specs.Writes.{putPart}
+use Rattle.layout.specs.Writes.{putPart}
 
 -- ---- slots of width m
 

@@ -2,11 +2,11 @@
 ghost use mathlib.Core.Path.{_≡_};
 ghost use Prim.Native.Nat.{_+_, _^_, _≤_, _<_};
 ghost use lib.ListN.{length, getD};
 ghost use Rattle.layout.specs.Sizes.{InRange, headerAt, overAt, overCount};
-ghost use Rattle.steps.specs.Writes.{added, overPut, putWord, putPrefix, putRowOwner, putPageOwner};
-use layout::find;
-use layout::head;
-use layout::head::Header;
+ghost use Rattle.layout.specs.Writes.{added, overPut, putWord, putPrefix, putRowOwner, putPageOwner};
+use crate::find;
+use crate::head;
+use crate::head::Header;
 use numbers::place as element;
 
 // A new overflow entry at its place: those from k on move up by one entry, from the top.

@@ -1,11 +1,11 @@
 -- A direct entry is one write; past them the overflow table is searched. Assumes nothing.
 use mathlib.Core.Path.{_∙_, ap}
 use Rattle.layout.specs.declared.head.Header.{Header}
-use Rattle.steps.specs.Writes.{putWord}
-use Rattle.steps.proofs.Gaps.{direct-put, over-head}
+use Rattle.layout.specs.Writes.{putWord}
+use Rattle.layout.proofs.Gaps.{direct-put, over-head}
 use borrow.Author.Needs.{needs}
-use Rattle.steps.proofs.write.set_word.Statement.{statement}
-use Rattle.steps.proofs.write.set_word.Tie as tie
+use Rattle.layout.proofs.write.set_word.Statement.{statement}
+use Rattle.layout.proofs.write.set_word.Tie as tie
 
 at-requires : tie.Need-at-requires
 at-requires c κs = search needs

@@ -1,9 +1,9 @@
 -- A direct entry is written where it stands; past them the search says where. Assumes nothing.
 use native.Mathlib.Omega.{arith}
-use Rattle.steps.proofs.Gaps.{word-there, word-over}
+use Rattle.layout.proofs.Gaps.{word-there, word-over}
 use borrow.Author.Needs.{needs}
-use Rattle.steps.proofs.write.put_word.Statement.{statement}
-use Rattle.steps.proofs.write.put_word.Tie as tie
+use Rattle.layout.proofs.write.put_word.Statement.{statement}
+use Rattle.layout.proofs.write.put_word.Tie as tie
 
 mul-put : tie.Need-mul-put
 mul-put c = search needs

@@ -3,9 +3,9 @@ use Prim.Native.Nat.{_≤_}
 use native.Mathlib.Omega.{arith}
 use borrow.Author.Needs.{needs}
 use lib.ListN.{length-set}
-use Rattle.steps.proofs.Gaps.{Opened, opened-none, opened-more, opened-done}
-use Rattle.steps.proofs.write.add_entry.Statement.{statement}
-use Rattle.steps.proofs.write.add_entry.Tie as tie
+use Rattle.layout.proofs.Gaps.{Opened, opened-none, opened-more, opened-done}
+use Rattle.layout.proofs.write.add_entry.Statement.{statement}
+use Rattle.layout.proofs.write.add_entry.Tie as tie
 
 abbrev Inv-loop : tie.InvT-loop
 Inv-loop table₀ c w k n a i₀ table i = (a ≤ i) × (i ≤ i₀) × Opened table₀ table i₀ i

@@ -2,10 +2,10 @@
 use mathlib.Core.Path.{ap, _∙_}
 use Prim.Native.Nat.{ℕ}
 use lib.ListN.{set}
 use Rattle.layout.proofs.Entries.{place-below, place-past}
 use borrow.Author.Needs.{needs}
-use Rattle.steps.proofs.write.put_prefix.Statement.{statement}
-use Rattle.steps.proofs.write.put_prefix.Tie as tie
+use Rattle.layout.proofs.write.put_prefix.Statement.{statement}
+use Rattle.layout.proofs.write.put_prefix.Tie as tie
 
 mul-put : tie.Need-mul-put
 mul-put c = search needs

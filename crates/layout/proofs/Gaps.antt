@@ -9,12 +9,11 @@ use lib.ListN.{length, getD, set, length-set}
 use lib.Seq.{getD-set-same, getD-set-other, ext-getD}
 use lib.Dec.{ltb, eqb}
 use borrow.Author.Tests.{lt-ltb, le-ltb, le-leb, lt-leb, ltb-true, ltb-false}
 use Rattle.layout.specs.Sizes.{directAt, overAt, headerAt, overCount}
 use Rattle.layout.specs.Short.{overPlace}
 use Rattle.layout.specs.declared.head.Header.{Header}
-use Rattle.steps.specs.Writes.{added, addedIf, overPut, putWord}
-use Rattle.steps.proofs.Puts.{same-or}
-use Rattle.steps.proofs.Words.{added-length, added-over, added-low, added-high, added-chunk, added-word, added-prefix, added-up}
+use Rattle.layout.specs.Writes.{added, addedIf, overPut, putWord}
+use Rattle.layout.proofs.Added.{same-or, added-length, added-over, added-low, added-high, added-chunk, added-word, added-prefix, added-up}
 
 -- ---- the loop
 

@@ -1,8 +1,8 @@
 -- Each way through is one of the laws on a chunk's place in the overflow entries. Assumes nothing.
-use Rattle.steps.proofs.Gaps.{over-there, over-full, over-new}
+use Rattle.layout.proofs.Gaps.{over-there, over-full, over-new}
 use borrow.Author.Needs.{needs}
-use Rattle.steps.proofs.write.put_over.Statement.{statement}
-use Rattle.steps.proofs.write.put_over.Tie as tie
+use Rattle.layout.proofs.write.put_over.Statement.{statement}
+use Rattle.layout.proofs.write.put_over.Tie as tie
 
 at-requires : tie.Need-at-requires
 at-requires c κs = search needs
