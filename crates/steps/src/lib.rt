@@ -1,2 +1,2 @@
-// Writes to the table, which every writing call is made of.
+// What a chunk writes that turns from a row into a page.
 pub mod turn;
