@@ -14,7 +14,8 @@ use Rattle.sparse.proofs.Rows.{member-none}
 use Rattle.layout.specs.Mem.{Mem}
 use Rattle.layout.specs.Sizes.{head, overCount}
 use Rattle.layout.specs.Places.{rowPart, rowOwner}
-use Rattle.layout.specs.Meaning.{offsets, Kind, absent, sparse, kinds}
+use Rattle.document.specs.State.{Kind, absent, sparse}
+use Rattle.layout.specs.Meaning.{offsets, kinds, stateOf}
 use Rattle.layout.specs.Follows.{AllZero, Listed, Follows}
 use Rattle.layout.specs.declared.place.Place.{Place}
 use Rattle.layout.specs.declared.place.Place.the-variants.{Absent, Sparse}
@@ -22,9 +23,10 @@ use Rattle.layout_laws.proofs.Sizes.{row-length}
 use Rattle.steps.specs.Steps.{rowed}
 use Rattle.steps.specs.Effects.{EntryFor, RowFor, Becomes}
 use Rattle.steps.proofs.Rowed.{rowed-becomes}
-use Rattle.layout.specs.declared.answer.Truth.the-variants.{Is}
+use Rattle.document.specs.declared.answer.Truth.the-variants.{Is}
 use Rattle.calls.specs.Insert.{freeRow, planBegin}
-use Rattle.calls.specs.Promise.{stateOf, overflows, sparses, denses, verdict, chunkSize, grown, newAnswer}
+use Rattle.document.specs.Insert.{chunkSize, grown, newAnswer}
+use Rattle.document.specs.Room.{overflows, sparses, denses, verdict}
 use Rattle.calls.specs.declared.plan.Plan.the-variants.{Refuse, Begin}
 use Rattle.calls.proofs.FirstFree.{first-free, found-less, none-full}
 use Rattle.calls.proofs.Verdicts.{verdict-six, verdict-seven, verdict-room, overflows-is, sparses-is, denses-fit, overflows-fit, Needs}

@@ -14,7 +14,8 @@ use Rattle.layout.specs.Mem.{Mem, mem}
 use Rattle.layout.specs.Sizes.{rowOwnersAt, head}
 use Rattle.layout.specs.Places.{encoded, rowPart}
 use Rattle.layout.specs.Entries.{wordOf}
-use Rattle.layout.specs.Meaning.{offsets, sparse}
+use Rattle.document.specs.State.{sparse}
+use Rattle.layout.specs.Meaning.{offsets, stateOf}
 use Rattle.layout.specs.Follows.{Follows}
 use Rattle.layout.specs.declared.place.Place.{Place}
 use Rattle.layout.specs.declared.place.Place.the-variants.{Sparse}
@@ -24,9 +25,10 @@ use Rattle.steps.specs.Steps.{rowed}
 use Rattle.steps.specs.Effects.{RowFor, Becomes}
 use Rattle.steps.proofs.Words.{put-word}
 use Rattle.steps.proofs.Rowed.{rowed-becomes}
-use Rattle.layout.specs.declared.answer.Truth.the-variants.{Is}
+use Rattle.document.specs.declared.answer.Truth.the-variants.{Is}
 use Rattle.calls.specs.Insert.{actBy}
-use Rattle.calls.specs.Promise.{stateOf, newAnswer, Inserts}
+use Rattle.document.specs.Insert.{newAnswer}
+use Rattle.calls.proofs.Outcomes.{Inserts}
 use Rattle.calls.specs.declared.plan.Plan.the-variants.{Enter}
 use Rattle.calls.proofs.RowEdits.{length-entered, member-entered, listed-entered}
 use Rattle.calls.proofs.Plans.{set-same}

@@ -11,17 +11,20 @@ use borrow.Author.Tests.{eqb-true, eqb-false, eq-eqb, ne-eqb}
 use Rattle.sums.specs.Ids.{Ids}
 use Rattle.sums.proofs.Counts.{count-ext}
 use Rattle.layout.specs.Mem.{Mem}
-use Rattle.layout.specs.Sizes.{top, head}
+use Rattle.document.specs.Sizes.{top}
+use Rattle.layout.specs.Sizes.{head}
 use Rattle.layout.specs.Entries.{placeOf}
-use Rattle.layout.specs.Meaning.{offsets, holds, Kind, kindOf, kinds}
+use Rattle.document.specs.State.{Kind}
+use Rattle.layout.specs.Meaning.{offsets, holds, kindOf, kinds, stateOf}
 use Rattle.layout.specs.Follows.{sizeOf, Follows}
 use Rattle.layout.specs.declared.place.Place.{Place}
-use Rattle.layout.specs.declared.answer.Truth.{Truth}
-use Rattle.layout.specs.declared.answer.Truth.the-variants.{Is, Refused}
+use Rattle.document.specs.declared.answer.Truth.{Truth}
+use Rattle.document.specs.declared.answer.Truth.the-variants.{Is, Refused}
 use Rattle.layout_laws.specs.Chunks
 use Rattle.layout_laws.proofs.Members.{holds-at, size-is}
 use Rattle.steps.specs.Effects.{Becomes}
-use Rattle.calls.specs.Promise.{stateOf, chunkSize, grown, grownMap, mapAfter, Inserts}
+use Rattle.document.specs.Insert.{chunkSize, grown, grownMap, mapAfter, isId}
+use Rattle.calls.proofs.Outcomes.{Inserts}
 use Rattle.calls.proofs.Refusals.{is-refused}
 
 -- ---- the map with a new member
@@ -36,7 +39,7 @@ grown-off x c c′ d = ap (λ (b : Bool). cond b (grown (kinds x c) (chunkSize (
 
 -- the members of a chunk are those of its place
 pub chunk-size : {x : Mem} → Follows x → (c : ℕ) → chunkSize (stateOf x) c ≡ sizeOf (head x) (x .pages) (placeOf (head x) (x .table) c)
-unfolding chunkSize Chunks.chunkSize
+unfolding chunkSize Chunks.membersOf
 chunk-size {x} w c =
     count-ext (λ (o : ℕ). holds x (c * top (head x) + o)) (offsets (head x) x (placeOf (head x) (x .table) c)) (top (head x)) (λ o l. holds-at x c o l) ∙ size-is w c
 
@@ -62,7 +65,7 @@ module _ (x : Mem) (w : Follows x) where
   }
 
   -- a negative id, or one that is a member
-  pub knows : (z : ℤ) (wanted : Truth) → wanted ≡ Is false → ((n : ℕ) → holds x n ≡ (holds x n || Rattle.calls.specs.Promise.isId z n)) → ((c : ℕ) → kinds x c ≡ mapAfter (stateOf x) z false c) → Inserts x z wanted (Is false) x
+  pub knows : (z : ℤ) (wanted : Truth) → wanted ≡ Is false → ((n : ℕ) → holds x n ≡ (holds x n || isId z n)) → ((c : ℕ) → kinds x c ≡ mapAfter (stateOf x) z false c) → Inserts x z wanted (Is false) x
   knows z wanted e m k = record {
     answer = sym e;
     follows = w;

@@ -16,16 +16,19 @@ use Rattle.layout.specs.Mem.{Mem}
 use Rattle.layout.specs.Sizes.{wide, head}
 use Rattle.layout.specs.Places.{rowPart, pagePart}
 use Rattle.layout.specs.Entries.{wordOf}
-use Rattle.layout.specs.Meaning.{holds, Kind, kindOf, kinds, ranked}
+use Rattle.document.specs.State.{Kind}
+use Rattle.layout.specs.Meaning.{holds, kindOf, kinds, ranked, stateOf}
 use Rattle.layout.specs.Follows.{Follows}
 use Rattle.layout.specs.declared.place.Place.{Place}
 use Rattle.layout.specs.declared.place.Place.the-variants.{Absent, Sparse, Dense}
 use Rattle.sparse.specs.declared.Place as slot
 use Rattle.numbers.specs.declared.Split.the-variants as split
 use Rattle.layout_laws.specs.Chunks
-use Rattle.layout.specs.declared.answer.Truth.the-variants.{Is, Refused}
+use Rattle.document.specs.declared.answer.Truth.the-variants.{Is, Refused}
 use Rattle.calls.specs.Insert.{freePage, planTurn, planRow, planSpot, planSplit, actBy, answerOf, insertBy, preparedSpot, preparedSplit, preparedBy}
-use Rattle.calls.specs.Promise.{stateOf, verdict, newAnswer, ifDense, preparedAnswer, Inserts}
+use Rattle.document.specs.Insert.{newAnswer, ifDense, preparedAnswer}
+use Rattle.document.specs.Room.{verdict}
+use Rattle.calls.proofs.Outcomes.{Inserts}
 use Rattle.calls.specs.declared.plan.Plan.{Plan}
 use Rattle.calls.specs.declared.plan.Plan.the-variants.{Refuse, Known, Mark, Enter}
 use Rattle.calls.proofs.RowEdits.{spot-listed}
@@ -64,7 +67,7 @@ module _ {x : Mem} {n : ℕ} (i : Into x n) where
         subst (λ (s : slot.Place). Good x n (planRow x word (r * head x .m) (head x .m) l s))
         (sym (spot-listed (head x) row l (offset x n) (own-listed i r l e) (own-long i r l e))) (sparse-if (member (rowOf row) l (offset x n)) refl)
 
-  place-good : (p : Place) → placed x n ≡ p → Good x n (planSpot x (chunk x n) (offset x n) word (Chunks.spotBy (head x) p))
+  place-good : (p : Place) → placed x n ≡ p → Good x n (planSpot x (chunk x n) (offset x n) word (Chunks.spotOn (head x) p))
   place-good Absent e = absent-good i e
   place-good (Sparse r l) e = sparse-good r l e
   place-good (Dense q) e = dense-good i q e
@@ -88,7 +91,7 @@ module _ {x : Mem} {n : ℕ} (i : Into x n) where
       let h = holds-of i (Dense q) e ∙ s in
       mark-good i q e (preparedAnswer (stateOf x) (pos n)) (prepared-wanted (Dense q) e ∙ ap (λ (b : Bool). Is (cond b false true)) h)
 
-  prepared-good : (p : Place) → placed x n ≡ p → Prepared (preparedSpot x (offset x n) (Chunks.spotBy (head x) p))
+  prepared-good : (p : Place) → placed x n ≡ p → Prepared (preparedSpot x (offset x n) (Chunks.spotOn (head x) p))
   prepared-good Absent e = refuses x (i .follows) (pos n) (preparedAnswer (stateOf x) (pos n)) 9 (prepared-wanted Absent e)
   prepared-good (Sparse r l) e = refuses x (i .follows) (pos n) (preparedAnswer (stateOf x) (pos n)) 9 (prepared-wanted (Sparse r l) e)
   prepared-good (Dense q) e = prepared-dense q e (isSet (pagePart (head x) (x .pages) q) (offset x n)) refl

@@ -1,3 +1,4 @@
+pub mod Outcomes
 pub mod Readings
 pub mod Counting
 pub mod Refusals

@@ -13,7 +13,8 @@ use Rattle.layout.specs.Mem.{Mem, mem}
 use Rattle.layout.specs.Sizes.{wide, pageOwnersAt, head}
 use Rattle.layout.specs.Places.{encoded, pagePart}
 use Rattle.layout.specs.Entries.{wordOf}
-use Rattle.layout.specs.Meaning.{offsets, Kind, dense}
+use Rattle.document.specs.State.{Kind, dense}
+use Rattle.layout.specs.Meaning.{offsets, stateOf}
 use Rattle.layout.specs.Follows.{OwnsPage, Follows}
 use Rattle.layout.specs.declared.place.Place.{Place}
 use Rattle.layout.specs.declared.place.Place.the-variants.{Dense}
@@ -25,10 +26,11 @@ use Rattle.layout.specs.Writes.{putPart, putWord, putPageOwner}
 use Rattle.steps.specs.Steps.{paged}
 use Rattle.steps.specs.Effects.{PageFor, Becomes}
 use Rattle.steps.proofs.Paged.{paged-becomes}
-use Rattle.layout.specs.declared.answer.Truth.{Truth}
-use Rattle.layout.specs.declared.answer.Truth.the-variants.{Is}
+use Rattle.document.specs.declared.answer.Truth.{Truth}
+use Rattle.document.specs.declared.answer.Truth.the-variants.{Is}
 use Rattle.calls.specs.Insert.{actBy}
-use Rattle.calls.specs.Promise.{stateOf, chunkSize, grown, newAnswer, Inserts}
+use Rattle.document.specs.Insert.{chunkSize, grown, newAnswer}
+use Rattle.calls.proofs.Outcomes.{Inserts}
 use Rattle.calls.specs.declared.plan.Plan.the-variants.{Known, Mark}
 use Rattle.calls.proofs.PageEdits.{set-with}
 use Rattle.calls.proofs.Plans.{dense-word, set-same, put-same}

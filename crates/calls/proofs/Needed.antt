@@ -12,14 +12,16 @@ use Rattle.sums.proofs.Sums.{sum-le}
 use Rattle.sums.proofs.Counts.{count-zero, count-suc, count-ext, count-none, count-split, count-full}
 use Rattle.sums.proofs.Rules.{both}
 use Rattle.layout.specs.Mem.{Mem}
-use Rattle.layout.specs.Sizes.{lastChunk, overAt, head, overCount}
+use Rattle.document.specs.Sizes.{lastChunk}
+use Rattle.layout.specs.Sizes.{overAt, head, overCount}
 use Rattle.layout.specs.Places.{decoded}
 use Rattle.layout.specs.Places
 use Rattle.layout.specs.Entries.{entries, chunkAt, placeAt, beside}
 use Rattle.layout.specs.Short.{overPlace}
-use Rattle.layout.specs.Meaning.{Kind, dense, kindOf, kinds, isPresent}
+use Rattle.document.specs.State.{Kind, dense, isPresent, isSparse, isDense}
+use Rattle.layout.specs.Meaning.{kindOf, kinds, stateOf}
 use Rattle.layout.specs.Follows.{Follows}
-use Rattle.layout.specs.declared.head.Header.{Header}
+use Rattle.document.specs.declared.sizes.Sizes.{Sizes}
 use Rattle.layout.specs.declared.place.Place.{Place}
 use Rattle.layout.specs.declared.place.Place.the-variants.{Absent, Sparse, Dense}
 use Rattle.layout_laws.proofs.Keys.{Cut, sum-beside}
@@ -28,7 +30,8 @@ use Rattle.layout_laws.proofs.Entries.{laid-ordered, word-of-over}
 use Rattle.layout_laws.proofs.Short.{over-rising}
 use Rattle.layout_laws.proofs.ChunkCounts.{present-word, count-kinds, over-chunks}
 use Rattle.calls.specs.Prepare.{overNeeded, pagesNeeded}
-use Rattle.calls.specs.Promise.{stateOf, isSparse, isDense, overflows, sparses, denses, denseMap}
+use Rattle.document.specs.Prepare.{denseMap}
+use Rattle.document.specs.Room.{overflows, sparses, denses}
 use Rattle.calls.proofs.Verdicts.{sparses-fit}
 
 -- ---- counts
@@ -59,17 +62,17 @@ and-false true = refl
 and-false false = refl
 
 -- a map that has at least what another has
-pub overflows-le : (h : Header) (k k′ : ℕ → Kind) → ((c : ℕ) → isPresent (k c) ≡ true → isPresent (k′ c) ≡ true) → overflows h k ≤ overflows h k′
+pub overflows-le : (h : Sizes) (k k′ : ℕ → Kind) → ((c : ℕ) → isPresent (k c) ≡ true → isPresent (k′ c) ≡ true) → overflows h k ≤ overflows h k′
 unfolding overflows
 overflows-le h k k′ f =
     count-imp (λ (c : ℕ). leb (h .d) c && isPresent (k c)) (λ (c : ℕ). leb (h .d) c && isPresent (k′ c)) (lastChunk h)
     (λ c e. let q = both (leb (h .d) c) (isPresent (k c)) e in ap₂ _&&_ (q .0) (f c (q .1)))
 
-pub sparses-le : (h : Header) (k k′ : ℕ → Kind) → ((c : ℕ) → isSparse (k c) ≡ true → isSparse (k′ c) ≡ true) → sparses h k ≤ sparses h k′
+pub sparses-le : (h : Sizes) (k k′ : ℕ → Kind) → ((c : ℕ) → isSparse (k c) ≡ true → isSparse (k′ c) ≡ true) → sparses h k ≤ sparses h k′
 unfolding sparses
 sparses-le h k k′ f = count-imp (λ (c : ℕ). isSparse (k c)) (λ (c : ℕ). isSparse (k′ c)) (lastChunk h) f
 
-pub denses-le : (h : Header) (k k′ : ℕ → Kind) → ((c : ℕ) → isDense (k c) ≡ true → isDense (k′ c) ≡ true) → denses h k ≤ denses h k′
+pub denses-le : (h : Sizes) (k k′ : ℕ → Kind) → ((c : ℕ) → isDense (k c) ≡ true → isDense (k′ c) ≡ true) → denses h k ≤ denses h k′
 unfolding denses
 denses-le h k k′ f = count-imp (λ (c : ℕ). isDense (k c)) (λ (c : ℕ). isDense (k′ c)) (lastChunk h) f
 
@@ -166,7 +169,7 @@ module _ {x : Mem} (w : Follows x) (c : ℕ) (far : c < lastChunk (head x)) wher
   unfolding pagesNeeded denses
   pages-needed =
       let a = count-kinds x (laid-ordered w) past (λ i. and-false (ltb c i)) in
-      let s = count-ext (λ (e : ℕ). past (chunkAt (head x) (x .table) e) (kindOf (placeAt (head x) (x .table) e))) (λ (e : ℕ). ltb c (chunkAt (head x) (x .table) e) && Places.isDense (placeAt (head x) (x .table) e)) (entries (head x) (x .table))
+      let s = count-ext (λ (e : ℕ). past (chunkAt (head x) (x .table) e) (kindOf (placeAt (head x) (x .table) e))) (λ (e : ℕ). ltb c (chunkAt (head x) (x .table) e) && Places.hasPage (placeAt (head x) (x .table) e)) (entries (head x) (x .table))
       (λ e l. ap (λ (b : Bool). ltb c (chunkAt (head x) (x .table) e) && b) (dense-kind (placeAt (head x) (x .table) e))) in
       let b = whole (λ (i : ℕ). past i (kinds x i)) in
       let z = count-none (λ (i : ℕ). past i (kinds x i)) (c + 1) (λ i l. ap (λ (q : Bool). q && isDense (kinds x i)) (le-ltb c i (omega arith))) in
@@ -176,7 +179,7 @@ module _ {x : Mem} (w : Follows x) (c : ℕ) (far : c < lastChunk (head x)) wher
       (λ j l. ap isDense (dense-high x c (c + 1 + j) (omega arith)) ∙ ap (λ (q : Bool). q && isDense (kinds x (c + 1 + j))) (sym (lt-ltb c (c + 1 + j) (omega arith)))) in
       omega arith
     where
-      dense-kind : (p : Place) → isDense (kindOf p) ≡ Places.isDense p
+      dense-kind : (p : Place) → isDense (kindOf p) ≡ Places.hasPage p
       dense-kind Absent = refl
       dense-kind (Sparse r l) = refl
       dense-kind (Dense p) = refl

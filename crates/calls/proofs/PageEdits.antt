@@ -16,9 +16,10 @@ use Rattle.sparse.proofs.Rows.{same-test, member-of}
 use Rattle.dense.specs.Bits.{bit, isSet, withBit, withRow}
 use Rattle.dense.proofs.Bits.{bit-zeros, length-with, length-row, row-decides}
 use Rattle.dense.proofs.Sets.{isSet-with}
-use Rattle.layout.specs.Sizes.{InRange, top, wide}
+use Rattle.document.specs.Sizes.{InRange, top}
+use Rattle.layout.specs.Sizes.{wide}
 use Rattle.layout.specs.Follows.{AllZero, Listed}
-use Rattle.layout.specs.declared.head.Header.{Header}
+use Rattle.document.specs.declared.sizes.Sizes.{Sizes}
 use Rattle.layout_laws.proofs.Sizes.{wide-top, slot-inside, part-at, part-length}
 
 -- ---- one bit set
@@ -51,7 +52,7 @@ free-bits xs i n k l r z o =
 
 -- ---- a row's members in a free page
 
-module _ (h : Header) (z : InRange h) (page row : List ℕ) (l : ℕ) (long : length page ≡ wide h) (clear : (o : ℕ) → bit page o ≡ 0) (w : Listed h row l) where
+module _ (h : Sizes) (z : InRange h) (page row : List ℕ) (l : ℕ) (long : length page ≡ wide h) (clear : (o : ℕ) → bit page o ≡ 0) (w : Listed h row l) where
   abbrev filled : List ℕ
   filled = withRow page 0 row (top h) l
 

@@ -14,7 +14,7 @@ use Rattle.layout.specs.Sizes.{rowOwnersAt, pageOwnersAt, head}
 use Rattle.layout.specs.Places.{encoded, pageOwner}
 use Rattle.layout.specs.Entries.{placeOf}
 use Rattle.layout.specs.Follows.{Owned, Follows}
-use Rattle.layout.specs.declared.head.Header.{Header}
+use Rattle.document.specs.declared.sizes.Sizes.{Sizes}
 use Rattle.layout.specs.declared.place.Place.{Place}
 use Rattle.layout.specs.declared.place.Place.the-variants.{Absent, Sparse, Dense}
 use Rattle.layout_laws.proofs.Entries.{laid-ordered}
@@ -28,12 +28,12 @@ use Rattle.steps.proofs.Words.{put-word}
 use Rattle.steps.proofs.Slots.{entry-free, entry-none}
 
 -- page owners are no row owners
-left-page : (h : Header) (t u : List ℕ) (c : ℕ) (q : Place) → Owned h t c q → (j : ℕ) → pageOwner h (leftOwner h u q) j ≡ pageOwner h u j
+left-page : (h : Sizes) (t u : List ℕ) (c : ℕ) (q : Place) → Owned h t c q → (j : ℕ) → pageOwner h (leftOwner h u q) j ≡ pageOwner h u j
 left-page h t u c Absent o j = refl
 left-page h t u c (Sparse r l) o j = let k = o .there in getD-set-other u (rowOwnersAt h + r) (pageOwnersAt h + j) 0 0 (omega arith)
 left-page h t u c (Dense p) o j = refl
 
-left-length : (h : Header) (u : List ℕ) (q : Place) → length (leftOwner h u q) ≡ length u
+left-length : (h : Sizes) (u : List ℕ) (q : Place) → length (leftOwner h u q) ≡ length u
 left-length h u Absent = refl
 left-length h u (Sparse r l) = length-set u (rowOwnersAt h + r) 0
 left-length h u (Dense p) = refl

@@ -20,7 +20,7 @@ use Rattle.layout.specs.Meaning.{ranked}
 use Rattle.layout.specs.Follows.{Follows}
 use Rattle.layout.specs.Tests.{headIs}
 use Rattle.layout.proofs.Tests.{head-of}
-use Rattle.layout.specs.declared.head.Header.{Header}
+use Rattle.document.specs.declared.sizes.Sizes.{Sizes}
 use Rattle.layout.specs.declared.place.Place.the-variants.{Absent, Sparse, Dense}
 use Rattle.layout_laws.specs.Chunks
 use Rattle.layout_laws.proofs.Entries.{Ordered, word-direct, word-of-direct}
@@ -55,7 +55,7 @@ dense-word w p e = go (eqb w 0) (ltb w 268435456) refl e
 pub set-same : (t : List ℕ) (i w : ℕ) → getD t i 0 ≡ w → set t i w ≡ t
 set-same t i w e = ap (set t i) (sym e) ∙ set-getD t i 0
 
-module _ (h : Header) (t : List ℕ) (o : Ordered h t) (c w : ℕ) (is : wordOf h t c ≡ w) (some : w ≢ 0) where
+module _ (h : Sizes) (t : List ℕ) (o : Ordered h t) (c w : ℕ) (is : wordOf h t c ≡ w) (some : w ≢ 0) where
   pub put-same : putWord h t c w ≡ t
   unfolding putWord
   put-same = go (ltb c (h .d)) refl
@@ -89,10 +89,10 @@ module _ {x : Mem} (w : Follows x) where
   unfolding preparedPlan
   prepared-by q = ap (λ (b : Bool). cond b (cond (ranked x) (Refuse 4) (preparedSplit x q)) (Refuse 3)) tested
 
-  pub plan-at : (c o : ℕ) → planSplit x (split.At c o) ≡ planSpot x c o (wordOf (head x) (x .table) c) (Chunks.spotBy (head x) (placeOf (head x) (x .table) c))
+  pub plan-at : (c o : ℕ) → planSplit x (split.At c o) ≡ planSpot x c o (wordOf (head x) (x .table) c) (Chunks.spotOn (head x) (placeOf (head x) (x .table) c))
   plan-at c o = ap (planWord x c o) (word-in-is x (laid-walked w) c) ∙ ap (planSpot x c o (wordOf (head x) (x .table) c)) (spot-is (laid-walked w) c)
 
-  pub prepared-at : (c o : ℕ) → preparedSplit x (split.At c o) ≡ preparedSpot x o (Chunks.spotBy (head x) (placeOf (head x) (x .table) c))
+  pub prepared-at : (c o : ℕ) → preparedSplit x (split.At c o) ≡ preparedSpot x o (Chunks.spotOn (head x) (placeOf (head x) (x .table) c))
   prepared-at c o = ap (preparedSpot x o) (spot-of (laid-walked w) c)
 
   pub plan-begin : (c r : ℕ) → planBegin x c r ≡ cond (leb (head x .d) c && leb (head x .v) (overCount (x .table))) (Refuse 6) (cond (ltb r (head x .r)) (Begin r) (Refuse 7))

@@ -10,18 +10,23 @@ use mir.Syntax.{w64}
 use borrow.Author.Tests.{ltb-true, ltb-false, leb-true, leb-false, lt-ltb, le-ltb}
 use Rattle.numbers.proofs.Signs.{pos-below}
 use Rattle.layout.specs.Mem.{Mem}
-use Rattle.layout.specs.Sizes.{top, lastChunk, head}
+use Rattle.document.specs.Sizes.{top, lastChunk}
+use Rattle.layout.specs.Sizes.{head}
 use Rattle.layout.specs.Short.{wordIn}
-use Rattle.layout.specs.Meaning.{Kind, dense, kinds, ranked}
+use Rattle.document.specs.State.{Kind, dense}
+use Rattle.layout.specs.Meaning.{kinds, ranked, stateOf}
 use Rattle.layout.specs.Follows.{Follows}
 use Rattle.layout.specs.SetUp.{Did, did}
-use Rattle.layout.specs.declared.head.Header.{Header}
+use Rattle.document.specs.declared.sizes.Sizes.{Sizes}
 use Rattle.layout_laws.proofs.Walked.{follows-walked}
 use Rattle.numbers.proofs.Splits as splits
-use Rattle.layout.specs.declared.answer.Truth.the-variants as truth
-use Rattle.layout.specs.declared.answer.Outcome.the-variants.{Done, Refused}
+use Rattle.document.specs.declared.answer.Truth.the-variants as truth
+use Rattle.document.specs.declared.answer.Outcome.the-variants.{Done, Refused}
 use Rattle.calls.specs.Prepare.{Work, work, densedWord, densedTo, overNeeded, pagesNeeded, prepareId, prepareBy}
-use Rattle.calls.specs.Promise.{stateOf, overflows, denses, verdict, denseMap, done, prepareAnswer, Prepares}
+use Rattle.document.specs.Insert.{done}
+use Rattle.document.specs.Prepare.{denseMap, prepareAnswer}
+use Rattle.document.specs.Room.{overflows, denses, verdict}
+use Rattle.calls.proofs.Outcomes.{Prepares}
 use Rattle.calls.proofs.Verdicts.{verdict-six, verdict-eight, verdict-room}
 use Rattle.calls.proofs.Needed.{over-needed, pages-needed, rows-enough}
 use Rattle.calls.proofs.Sofar.{Sofar, sofar-none, sofar-more}
@@ -39,7 +44,7 @@ module _ {x : Mem} (w : Follows x) (mode : ranked x ≡ false) (c : ℕ) (far : 
       u = densedTo (head x) (work x 0) n
 
       go : Sofar x n u → Sofar x (suc n) (densedWord (head x) u n (wordIn (u .mem .table) n))
-      go s = subst (λ (h : Header). Sofar x (suc n) (densedWord h u n (wordIn (u .mem .table) n))) (s .sizes) (sofar-more x mode c n (omega arith) far u s over pages)
+      go s = subst (λ (h : Sizes). Sofar x (suc n) (densedWord h u n (wordIn (u .mem .table) n))) (s .sizes) (sofar-more x mode c n (omega arith) far u s over pages)
 
   pub all-dense : Sofar x (c + 1) (densedTo (head x) (work x 0) (c + 1))
   all-dense = sofar (c + 1) (omega arith)

@@ -10,16 +10,17 @@ use Rattle.sparse.specs.Row.{rowOf, member, belowOf}
 use Rattle.sparse.specs.Search.{placeIf}
 use Rattle.sparse.proofs.Searches.{search-rising}
 use Rattle.layout.specs.Mem.{Mem}
-use Rattle.layout.specs.Sizes.{InRange, top, head}
+use Rattle.document.specs.Sizes.{InRange, top}
+use Rattle.layout.specs.Sizes.{head}
 use Rattle.layout.specs.Places.{rowPart}
 use Rattle.layout.specs.Entries.{placeOf}
 use Rattle.layout.specs.Short.{wordIn}
 use Rattle.layout.specs.Meaning.{offsets, holds}
 use Rattle.layout.specs.Follows.{RowListed, Follows}
 use Rattle.layout.specs.Tests.{Walked}
-use Rattle.layout.specs.declared.head.Header.{Header}
-use Rattle.layout.specs.declared.answer.Truth.the-variants as truth
-use Rattle.layout.specs.declared.answer.Perhaps.the-variants as perhaps
+use Rattle.document.specs.declared.sizes.Sizes.{Sizes}
+use Rattle.document.specs.declared.answer.Truth.the-variants as truth
+use Rattle.document.specs.declared.answer.Perhaps.the-variants as perhaps
 use Rattle.layout.specs.declared.place.Place.{Place}
 use Rattle.layout.specs.declared.place.Place.the-variants.{Absent, Sparse, Dense}
 use Rattle.layout_laws.specs.Chunks
@@ -32,7 +33,7 @@ pub shift-ok : (x : Mem) → InRange (head x) → shiftOk (x .table) ≡ true
 shift-ok x z = ap₂ _&&_ (le-leb 9 (getD (x .table) 0 0) (z .s-low)) (le-leb (getD (x .table) 0 0) 25 (z .s-high))
 
 -- the short test finds each chunk's place
-pub spot-of : {x : Mem} → Walked x (head x) → (c : ℕ) → spotIf x (wordIn (x .table) c) ≡ Chunks.spotBy (head x) (placeOf (head x) (x .table) c)
+pub spot-of : {x : Mem} → Walked x (head x) → (c : ℕ) → spotIf x (wordIn (x .table) c) ≡ Chunks.spotOn (head x) (placeOf (head x) (x .table) c)
 spot-of {x} w c = ap (spotIf x) (word-in-is x w c) ∙ spot-is w c
 
 found-if : (b : Bool) (i : ℕ) → isFound (placeIf b i) ≡ b
@@ -40,7 +41,7 @@ found-if true i = refl
 found-if false i = refl
 
 -- what is looked up at a place is the place's offset
-pub has-at : (h : Header) (x : Mem) (p : Place) (o : ℕ) → RowListed h (x .rows) p → hasAt x o (Chunks.spotBy h p) ≡ truth.Is (offsets h x p o)
+pub has-at : (h : Sizes) (x : Mem) (p : Place) (o : ℕ) → RowListed h (x .rows) p → hasAt x o (Chunks.spotOn h p) ≡ truth.Is (offsets h x p o)
 has-at h x Absent o w = refl
 has-at h x (Sparse r l) o w =
     let row = rowPart h (x .rows) r in

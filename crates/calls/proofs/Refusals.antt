@@ -10,12 +10,13 @@ use Rattle.numbers.specs.Ids.{splitOf}
 use Rattle.numbers.specs.declared.Split.{Split}
 use Rattle.numbers.specs.declared.Split.the-variants as split
 use Rattle.layout.specs.Mem.{Mem}
-use Rattle.layout.specs.Sizes.{top, head, modeAt}
+use Rattle.document.specs.Sizes.{top}
+use Rattle.layout.specs.Sizes.{head, modeAt}
 use Rattle.layout.specs.Tests.{walked}
 use Rattle.layout.specs.SetUp.{Did, did}
-use Rattle.layout.specs.declared.head.Header.{Header}
-use Rattle.layout.specs.declared.answer.Truth.the-variants as truth
-use Rattle.layout.specs.declared.answer.Outcome.the-variants.{Done, Refused}
+use Rattle.document.specs.declared.sizes.Sizes.{Sizes}
+use Rattle.document.specs.declared.answer.Truth.the-variants as truth
+use Rattle.document.specs.declared.answer.Outcome.the-variants.{Done, Refused}
 use Rattle.calls.specs.Insert.{planBy, actSplit, answerOf, insertBy, preparedPlan, preparedBy}
 use Rattle.calls.specs.Prepare.{work, densedTo, overNeeded, pagesNeeded, prepareTo, prepareId, prepareBy}
 use Rattle.calls.specs.declared.plan.Plan.{Plan}
@@ -58,7 +59,7 @@ same-refused x k n e = refl
 same-done : (x y : Mem) → Same x (did Done y)
 same-done x y n e = absurd (let z : _≡_ {A = ℕ} 0 1 = cc in omega arith)
 
-same-to : (h : Header) (x : Mem) (c : ℕ) → Same x (prepareTo h x c)
+same-to : (h : Sizes) (x : Mem) (c : ℕ) → Same x (prepareTo h x c)
 same-to h x c =
     let d = did Done (densedTo h (work x 0) (c + 1) .mem) in
     same-cond x (ltb (h .v) (overNeeded h (x .table) c)) (did (Refused 6) x) (cond (ltb (h .p) (pagesNeeded h (x .table) c)) (did (Refused 8) x) d) (same-refused x 6)

@@ -16,16 +16,16 @@ use Rattle.sparse.proofs.Searches.{search-rising, spot-rising}
 use Rattle.sparse.proofs.Edits.{less-or, length-inserted, inserted-beyond, inserted-at}
 use Rattle.sparse.proofs.Inserts.{member-insert, rising-insert}
 use Rattle.layout.specs.Mem.{Mem}
-use Rattle.layout.specs.Sizes.{top}
+use Rattle.document.specs.Sizes.{top}
 use Rattle.layout.specs.Places.{rowPart}
 use Rattle.layout.specs.Follows.{AllZero, Listed}
-use Rattle.layout.specs.declared.head.Header.{Header}
+use Rattle.document.specs.declared.sizes.Sizes.{Sizes}
 use Rattle.layout_laws.proofs.Sizes.{part-at}
 use Rattle.layout_laws.proofs.Members.{listed-rising}
 
 -- ---- a row with a new offset
 
-module _ (h : Header) (row : List ℕ) (l o : ℕ) (w : Listed h row l) (long : length row ≡ h .m) where
+module _ (h : Sizes) (row : List ℕ) (l o : ℕ) (w : Listed h row l) (long : length row ≡ h .m) where
   abbrev at : ℕ
   at = belowOf (rowOf row) l o
 
@@ -71,7 +71,7 @@ module _ (h : Header) (row : List ℕ) (l o : ℕ) (w : Listed h row l) (long : 
 
 -- ---- a free row, with its first offset
 
-module _ (h : Header) (x : Mem) (r : ℕ) (free : AllZero (x .rows) (r * h .m) (h .m)) where
+module _ (h : Sizes) (x : Mem) (r : ℕ) (free : AllZero (x .rows) (r * h .m) (h .m)) where
   pub listed-free : Listed h (rowPart h (x .rows) r) 0
   listed-free = record {
     below = λ i l. absurd (omega arith);

@@ -8,14 +8,15 @@ use Rattle.layout.specs.Mem.{Mem}
 use Rattle.layout.specs.Sizes.{head}
 use Rattle.layout.specs.Places.{rowPart}
 use Rattle.layout.specs.Entries.{wordOf}
-use Rattle.layout.specs.Meaning.{Kind, sparse, dense, kinds}
+use Rattle.document.specs.State.{Kind, sparse, dense}
+use Rattle.layout.specs.Meaning.{kinds, stateOf}
 use Rattle.layout.specs.Follows.{OwnsRow, Listed, RowListed, sizeOf}
 use Rattle.layout.specs.declared.place.Place.the-variants.{Sparse}
 use Rattle.layout_laws.proofs.Sizes.{row-length}
 use Rattle.layout_laws.proofs.Walked.{laid-walked}
 use Rattle.layout_laws.proofs.Owners.{row-of}
 use Rattle.layout_laws.proofs.Members.{listed-of}
-use Rattle.calls.specs.Promise.{stateOf, chunkSize, grown}
+use Rattle.document.specs.Insert.{chunkSize, grown}
 use Rattle.calls.proofs.Plans.{sparse-word}
 use Rattle.calls.proofs.Grown.{chunk-size}
 use Rattle.calls.proofs.Wanted.{chunk, placed, Into, kind-of}

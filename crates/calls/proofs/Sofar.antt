@@ -13,13 +13,15 @@ use Rattle.sums.proofs.Counts.{count-full}
 use Rattle.dense.specs.Bits.{bit, isSet, withRow}
 use Rattle.dense.proofs.Bits.{zero-clear}
 use Rattle.layout.specs.Mem.{Mem}
-use Rattle.layout.specs.Sizes.{top, wide, lastChunk, head, modeAt}
+use Rattle.document.specs.Sizes.{top, lastChunk}
+use Rattle.layout.specs.Sizes.{wide, head, modeAt}
 use Rattle.layout.specs.Places.{rowPart, pagePart, pageOwner}
 use Rattle.layout.specs.Entries.{placeOf}
 use Rattle.layout.specs.Short.{wordIn}
-use Rattle.layout.specs.Meaning.{offsets, holds, Kind, absent, sparse, dense, kindOf, kinds, isPresent, ranked}
+use Rattle.document.specs.State.{Kind, absent, sparse, dense, isPresent, isDense}
+use Rattle.layout.specs.Meaning.{offsets, holds, kindOf, kinds, ranked, stateOf}
 use Rattle.layout.specs.Follows.{Listed, RowListed, Follows}
-use Rattle.layout.specs.declared.head.Header.{Header}
+use Rattle.document.specs.declared.sizes.Sizes.{Sizes}
 use Rattle.layout.specs.declared.place.Place.{Place}
 use Rattle.layout.specs.declared.place.Place.the-variants.{Absent, Sparse, Dense}
 use Rattle.layout_laws.proofs.Short.{word-in-is}
@@ -32,7 +34,8 @@ use Rattle.steps.proofs.Paged.{paged-becomes}
 use Rattle.layout.specs.declared.find.Word.{Word}
 use Rattle.calls.specs.Insert.{firstFree}
 use Rattle.calls.specs.Prepare.{Work, work, densed, densedWord}
-use Rattle.calls.specs.Promise.{stateOf, isDense, overflows, denses, denseMap}
+use Rattle.document.specs.Prepare.{denseMap}
+use Rattle.document.specs.Room.{overflows, denses}
 use Rattle.calls.proofs.FirstFree.{first-free, taken}
 use Rattle.calls.proofs.Verdicts.{overflows-is, denses-is, Needs, needs}
 use Rattle.calls.proofs.PageEdits.{free-bits, length-filled, set-filled}
@@ -131,18 +134,18 @@ module _ (x : Mem) (mode : ranked x ≡ false) (c n : ℕ) (le : n ≤ c) (far :
 
   over-at : overflows (head y) onward ≤ head y .v
   over-at =
-      let a : overflows (head y) (denseMap (stateOf x) c) ≤ head y .v = subst (λ (h : Header). overflows h (denseMap (stateOf x) c) ≤ h .v) (sym (s .sizes)) over in
+      let a : overflows (head y) (denseMap (stateOf x) c) ≤ head y .v = subst (λ (h : Sizes). overflows h (denseMap (stateOf x) c) ≤ h .v) (sym (s .sizes)) over in
       let b = overflows-le (head y) onward (denseMap (stateOf x) c) (λ i. dense-more x c isPresent refl (onward i) i (past-same i)) in
       omega arith
 
   pages-at : denses (head y) onward ≤ head y .p
   pages-at =
-      let a : denses (head y) (denseMap (stateOf x) c) ≤ head y .p = subst (λ (h : Header). denses h (denseMap (stateOf x) c) ≤ h .p) (sym (s .sizes)) pages in
+      let a : denses (head y) (denseMap (stateOf x) c) ≤ head y .p = subst (λ (h : Sizes). denses h (denseMap (stateOf x) c) ≤ h .p) (sym (s .sizes)) pages in
       let b = denses-le (head y) onward (denseMap (stateOf x) c) (λ i. dense-more x c isDense refl (onward i) i (past-same i)) in
       omega arith
 
   inside : n < lastChunk (head y)
-  inside = subst (λ (h : Header). n < lastChunk h) (sym (s .sizes)) (omega arith)
+  inside = subst (λ (h : Sizes). n < lastChunk h) (sym (s .sizes)) (omega arith)
 
   more : (a : Kind) → kinds y n ≡ a → Needs (head y) (kinds y) onward n a dense
   more a e =
@@ -195,7 +198,7 @@ module _ (x : Mem) (mode : ranked x ≡ false) (c n : ℕ) (le : n ≤ c) (far :
       mode = b .mode-is ∙ s .mode;
       members = λ i. b .holds-is i ∙ kept i (eqb (i / top (head y)) n) refl ∙ s .members i;
       map = λ i. b .kinds-is i ∙ onward-is i;
-      used = λ p l. subst (λ (h : Header). pageOwner h (z .table) p ≢ 0) (sym (b .head-is)) (owner-after w n old is entry free there page p (owned p l (eqb p free) refl));
+      used = λ p l. subst (λ (h : Sizes). pageOwner h (z .table) p ≢ 0) (sym (b .head-is)) (owner-after w n old is entry free there page p (owned p l (eqb p free) refl));
     }
 
   -- ---- by the place of chunk n

@@ -12,10 +12,12 @@ use borrow.Author.Tests.{ltb-true, ltb-false, le-ltb}
 use Rattle.sparse.specs.Row.{rowOf, member}
 use Rattle.dense.specs.Bits.{bit, isSet, withBit, withRow}
 use Rattle.layout.specs.Mem.{Mem}
-use Rattle.layout.specs.Sizes.{top, wide, head}
+use Rattle.document.specs.Sizes.{top}
+use Rattle.layout.specs.Sizes.{wide, head}
 use Rattle.layout.specs.Places.{rowPart, pagePart, pageOwner}
 use Rattle.layout.specs.Entries.{wordOf}
-use Rattle.layout.specs.Meaning.{offsets, sparse, dense, kinds}
+use Rattle.document.specs.State.{sparse, dense}
+use Rattle.layout.specs.Meaning.{offsets, kinds, stateOf}
 use Rattle.layout.specs.Follows.{Follows}
 use Rattle.layout.specs.declared.place.Place.{Place}
 use Rattle.layout.specs.declared.place.Place.the-variants.{Sparse, Dense}
@@ -23,9 +25,10 @@ use Rattle.layout_laws.proofs.Sizes.{page-length}
 use Rattle.steps.specs.Steps.{paged}
 use Rattle.steps.specs.Effects.{PageFor, Becomes}
 use Rattle.steps.proofs.Paged.{paged-becomes}
-use Rattle.layout.specs.declared.answer.Truth.the-variants.{Is}
+use Rattle.document.specs.declared.answer.Truth.the-variants.{Is}
 use Rattle.calls.specs.Insert.{freePage, planTurn}
-use Rattle.calls.specs.Promise.{stateOf, overflows, sparses, denses, verdict, newAnswer}
+use Rattle.document.specs.Insert.{newAnswer}
+use Rattle.document.specs.Room.{overflows, sparses, denses, verdict}
 use Rattle.calls.specs.declared.plan.Plan.the-variants.{Refuse, Turn}
 use Rattle.calls.proofs.FirstFree.{first-free, found-less, none-full}
 use Rattle.calls.proofs.Verdicts.{verdict-eight, verdict-room, denses-is, sparses-fit, overflows-fit, Needs}

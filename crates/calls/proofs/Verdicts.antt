@@ -10,21 +10,22 @@ use borrow.Author.Tests.{lt-ltb, le-ltb}
 use Rattle.sums.specs.Ids.{count}
 use Rattle.sums.proofs.Counts.{count-ext, count-le, count-change}
 use Rattle.layout.specs.Mem.{Mem}
-use Rattle.layout.specs.Sizes.{lastChunk, head, overCount}
+use Rattle.document.specs.Sizes.{lastChunk}
+use Rattle.layout.specs.Sizes.{head, overCount}
 use Rattle.layout.specs.Places.{rowOwner, pageOwner}
-use Rattle.layout.specs.Meaning.{Kind, absent, sparse, dense, kinds, isPresent}
+use Rattle.document.specs.State.{Kind, absent, sparse, dense, isPresent, isSparse, isDense}
+use Rattle.layout.specs.Meaning.{kinds}
 use Rattle.layout.specs.Follows.{Follows}
-use Rattle.layout.specs.declared.head.Header.{Header}
-use Rattle.layout.specs.declared.answer.Truth.{Truth}
-use Rattle.layout.specs.declared.answer.Truth.the-variants.{Refused}
-use Rattle.layout_laws.specs.Chunks.{inRow, inPage}
+use Rattle.document.specs.declared.sizes.Sizes.{Sizes}
+use Rattle.document.specs.declared.answer.Truth.{Truth}
+use Rattle.document.specs.declared.answer.Truth.the-variants.{Refused}
 use Rattle.layout_laws.proofs.ChunkCounts.{over-chunks, sparse-rows, dense-pages}
-use Rattle.calls.specs.Promise.{isSparse, isDense, overflows, sparses, denses, verdict}
+use Rattle.document.specs.Room.{overflows, sparses, denses, verdict}
 use Rattle.calls.proofs.FirstFree.{taken}
 
 -- ---- the verdict on a map
 
-module _ (h : Header) (k : ℕ → Kind) (a : Truth) where
+module _ (h : Sizes) (k : ℕ → Kind) (a : Truth) where
   abbrev rows7 : Truth → Truth
   rows7 b = cond (ltb (h .r) (sparses h k)) (Refused 7) b
 
@@ -57,12 +58,12 @@ module _ (h : Header) (k : ℕ → Kind) (a : Truth) where
 
 -- ---- what a memory's map needs
 
-in-row : (k : Kind) → isSparse k ≡ inRow k
+in-row : (k : Kind) → isSparse k ≡ isSparse k
 in-row absent = refl
 in-row sparse = refl
 in-row dense = refl
 
-in-page : (k : Kind) → isDense k ≡ inPage k
+in-page : (k : Kind) → isDense k ≡ isDense k
 in-page absent = refl
 in-page sparse = refl
 in-page dense = refl
@@ -76,11 +77,11 @@ module _ {x : Mem} (w : Follows x) where
   -- the rows and pages that have an owner
   pub sparses-is : sparses (head x) (kinds x) ≡ count (taken (rowOwner (head x) (x .table))) (head x .r)
   unfolding sparses
-  sparses-is = count-ext (λ (c : ℕ). isSparse (kinds x c)) (λ (c : ℕ). inRow (kinds x c)) (lastChunk (head x)) (λ c l. in-row (kinds x c)) ∙ sparse-rows w
+  sparses-is = count-ext (λ (c : ℕ). isSparse (kinds x c)) (λ (c : ℕ). isSparse (kinds x c)) (lastChunk (head x)) (λ c l. in-row (kinds x c)) ∙ sparse-rows w
 
   pub denses-is : denses (head x) (kinds x) ≡ count (taken (pageOwner (head x) (x .table))) (head x .p)
   unfolding denses
-  denses-is = count-ext (λ (c : ℕ). isDense (kinds x c)) (λ (c : ℕ). inPage (kinds x c)) (lastChunk (head x)) (λ c l. in-page (kinds x c)) ∙ dense-pages w
+  denses-is = count-ext (λ (c : ℕ). isDense (kinds x c)) (λ (c : ℕ). isDense (kinds x c)) (lastChunk (head x)) (λ c l. in-page (kinds x c)) ∙ dense-pages w
 
   pub sparses-fit : sparses (head x) (kinds x) ≤ head x .r
   sparses-fit = let e = sparses-is in let l = count-le (taken (rowOwner (head x) (x .table))) (head x .r) in omega arith
@@ -93,7 +94,7 @@ module _ {x : Mem} (w : Follows x) where
 
 -- ---- one chunk changed
 
-module _ (h : Header) (k k′ : ℕ → Kind) (c : ℕ) (l : c < lastChunk h) (off : (c′ : ℕ) → c′ ≢ c → k′ c′ ≡ k c′) where
+module _ (h : Sizes) (k k′ : ℕ → Kind) (c : ℕ) (l : c < lastChunk h) (off : (c′ : ℕ) → c′ ≢ c → k′ c′ ≡ k c′) where
   overflows-change : overflows h k′ + boolByte (leb (h .d) c && isPresent (k c)) ≡ overflows h k + boolByte (leb (h .d) c && isPresent (k′ c))
   unfolding overflows
   overflows-change =
@@ -109,12 +110,12 @@ module _ (h : Header) (k k′ : ℕ → Kind) (c : ℕ) (l : c < lastChunk h) (o
   denses-change = count-change (λ (c : ℕ). isDense (k c)) (λ (c : ℕ). isDense (k′ c)) c (lastChunk h) l (λ j m d. ap isDense (off j d))
 
 -- what two maps need, where chunk c was of kind a and is of kind b
-pub record Needs (h : Header) (k k′ : ℕ → Kind) (c : ℕ) (a b : Kind) : Type 0 where
+pub record Needs (h : Sizes) (k k′ : ℕ → Kind) (c : ℕ) (a b : Kind) : Type 0 where
   pub over : (t : Bool) → leb (h .d) c ≡ t → overflows h k′ + boolByte (t && isPresent a) ≡ overflows h k + boolByte (t && isPresent b)
   pub rows : sparses h k′ + boolByte (isSparse a) ≡ sparses h k + boolByte (isSparse b)
   pub pages : denses h k′ + boolByte (isDense a) ≡ denses h k + boolByte (isDense b)
 
-pub needs : (h : Header) (k k′ : ℕ → Kind) (c : ℕ) (a b : Kind) → c < lastChunk h → ((c′ : ℕ) → c′ ≢ c → k′ c′ ≡ k c′) → k c ≡ a → k′ c ≡ b → Needs h k k′ c a b
+pub needs : (h : Sizes) (k k′ : ℕ → Kind) (c : ℕ) (a b : Kind) → c < lastChunk h → ((c′ : ℕ) → c′ ≢ c → k′ c′ ≡ k c′) → k c ≡ a → k′ c ≡ b → Needs h k k′ c a b
 needs h k k′ c a b l off p q = record {
   over = λ t e.
       ap₂ (λ (s : Bool) (i : Kind). overflows h k′ + boolByte (s && isPresent i)) (sym e) (sym p)

@@ -8,16 +8,20 @@ use lib.IntN.{pos}
 use lib.Pow.{pow-pos}
 use lib.Dec.{leb}
 use Rattle.layout.specs.Mem.{Mem}
-use Rattle.layout.specs.Sizes.{top, lastChunk, head}
+use Rattle.document.specs.Sizes.{top, lastChunk}
+use Rattle.layout.specs.Sizes.{head}
 use Rattle.layout.specs.Entries.{placeOf}
-use Rattle.layout.specs.Meaning.{offsets, holds, Kind, kindOf, kinds, ranked}
+use Rattle.document.specs.State.{Kind}
+use Rattle.layout.specs.Meaning.{offsets, holds, kindOf, kinds, ranked, stateOf}
 use Rattle.layout.specs.Follows.{Follows}
 use Rattle.layout.specs.declared.place.Place.{Place}
 use Rattle.steps.specs.Effects.{Open}
 use Rattle.numbers.proofs.Splits as splits
-use Rattle.layout.specs.declared.answer.Truth.the-variants.{Is, Refused}
+use Rattle.document.specs.declared.answer.Truth.the-variants.{Is, Refused}
 use Rattle.calls.specs.Insert.{actBy, answerOf}
-use Rattle.calls.specs.Promise.{stateOf, verdict, chunkSize, grown, grownMap, newAnswer, Inserts}
+use Rattle.document.specs.Insert.{chunkSize, grown, grownMap, newAnswer}
+use Rattle.document.specs.Room.{verdict}
+use Rattle.calls.proofs.Outcomes.{Inserts}
 use Rattle.calls.specs.declared.plan.Plan.{Plan}
 use Rattle.calls.specs.declared.plan.Plan.the-variants.{Known}
 use Rattle.calls.proofs.Verdicts.{verdict-room, sparses-fit, denses-fit, overflows-fit, Needs, needs}

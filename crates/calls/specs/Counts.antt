@@ -11,10 +11,10 @@ use Rattle.dense.specs.Bits.{bitsTo}
 use Rattle.layout.specs.Mem.{Mem}
 use Rattle.layout.specs.Sizes.{head, overAt, overCount}
 use Rattle.layout.specs.Entries.{entries, wordAt}
-use Rattle.layout.specs.declared.answer.Truth.{Truth}
-use Rattle.layout.specs.declared.answer.Truth.the-variants as truth
-use Rattle.layout.specs.declared.answer.Amount.{Amount}
-use Rattle.layout.specs.declared.answer.Amount.the-variants as amount
+use Rattle.document.specs.declared.answer.Truth.{Truth}
+use Rattle.document.specs.declared.answer.Truth.the-variants as truth
+use Rattle.document.specs.declared.answer.Amount.{Amount}
+use Rattle.document.specs.declared.answer.Amount.the-variants as amount
 use Rattle.layout.specs.declared.find.Spot.{Spot}
 use Rattle.layout.specs.declared.find.Spot.the-variants.{Nowhere, Row, Page, Bad}
 use Rattle.calls.specs.Reading.{shiftOk, spotBy}
@@ -46,8 +46,8 @@ sizeIn x Bad = 0
 unfoldable pub goodAt : Mem → ℕ → Bool
 goodAt x e = isGood (spotBy x (wordBy x e))
 
-unfoldable pub sizeAt : Mem → ℕ → ℕ
-sizeAt x e = sizeIn x (spotBy x (wordBy x e))
+unfoldable pub sizeBy : Mem → ℕ → ℕ
+sizeBy x e = sizeIn x (spotBy x (wordBy x e))
 
 unfoldable pub usedAt : Mem → ℕ → Bool
 usedAt x e = not (eqb (wordBy x e) 0)
@@ -58,10 +58,10 @@ partsOk x = entriesOk (x .table) && allTo (goodAt x) (entriesOf x)
 
 -- `len`, `is_empty`
 unfoldable pub lenBy : Mem → Amount
-lenBy x = cond (partsOk x) (amount.Of (sumTo (sizeAt x) (entriesOf x))) (amount.Refused 3)
+lenBy x = cond (partsOk x) (amount.Of (sumTo (sizeBy x) (entriesOf x))) (amount.Refused 3)
 
 unfoldable pub isEmptyBy : Mem → Truth
-isEmptyBy x = cond (partsOk x) (truth.Is (allTo (λ (e : ℕ). eqb (sizeAt x e) 0) (entriesOf x))) (truth.Refused 3)
+isEmptyBy x = cond (partsOk x) (truth.Is (allTo (λ (e : ℕ). eqb (sizeBy x e) 0) (entriesOf x))) (truth.Refused 3)
 
 -- `has_any`, `allocated_chunk_count`
 unfoldable pub hasAnyBy : Mem → Truth

@@ -14,15 +14,16 @@ use Rattle.sparse.specs.declared.Place.{Place}
 use Rattle.sparse.specs.declared.Place.the-variants.{Found, Free}
 use Rattle.dense.specs.Bits.{isSet, withBit, withRow}
 use Rattle.layout.specs.Mem.{Mem, mem}
-use Rattle.layout.specs.Sizes.{top, head, modeAt, overCount}
+use Rattle.document.specs.Sizes.{top}
+use Rattle.layout.specs.Sizes.{head, modeAt, overCount}
 use Rattle.layout.specs.Places.{rowPart, pagePart, rowOwner, pageOwner}
 use Rattle.layout.specs.Short.{wordIn}
 unfoldable pub use Rattle.layout.specs.Free.{firstFree}
 use Rattle.layout.specs.Tests.{headIs}
-use Rattle.layout.specs.declared.head.Header.{Header}
+use Rattle.document.specs.declared.sizes.Sizes.{Sizes}
 use Rattle.layout.specs.declared.place.Place.the-variants.{Sparse}
-use Rattle.layout.specs.declared.answer.Truth.{Truth}
-use Rattle.layout.specs.declared.answer.Truth.the-variants as truth
+use Rattle.document.specs.declared.answer.Truth.{Truth}
+use Rattle.document.specs.declared.answer.Truth.the-variants as truth
 use Rattle.layout.specs.declared.find.Word.{Word}
 use Rattle.layout.specs.declared.find.Word.the-variants as word
 use Rattle.layout.specs.declared.find.Spot.{Spot}

@@ -2,4 +2,3 @@ pub mod Reading
 pub mod Counts
 pub mod Insert
 pub mod Prepare
-pub mod Promise

@@ -16,10 +16,10 @@ use Rattle.sparse.specs.declared.Place.the-variants.{Found, Free}
 use Rattle.dense.specs.Bits.{isSet}
 use Rattle.layout.specs.Mem.{Mem}
 use Rattle.layout.specs.Short.{wordIn, spotOf}
-use Rattle.layout.specs.declared.answer.Truth.{Truth}
-use Rattle.layout.specs.declared.answer.Truth.the-variants as truth
-use Rattle.layout.specs.declared.answer.Perhaps.{Perhaps}
-use Rattle.layout.specs.declared.answer.Perhaps.the-variants as perhaps
+use Rattle.document.specs.declared.answer.Truth.{Truth}
+use Rattle.document.specs.declared.answer.Truth.the-variants as truth
+use Rattle.document.specs.declared.answer.Perhaps.{Perhaps}
+use Rattle.document.specs.declared.answer.Perhaps.the-variants as perhaps
 use Rattle.layout.specs.declared.find.Word.{Word}
 use Rattle.layout.specs.declared.find.Word.the-variants as word
 use Rattle.layout.specs.declared.find.Spot.{Spot}

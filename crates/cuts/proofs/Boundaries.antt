@@ -10,10 +10,10 @@ use Rattle.sums.proofs.Counts.{count-suc, count-mono, byte-le}
 use Rattle.layout.specs.Mem.{Mem}
 use Rattle.layout.specs.Meaning.{holds, ranked}
 use Rattle.layout.specs.Follows.{Follows}
-use Rattle.layout.specs.declared.answer.Amount.{Amount}
-use Rattle.layout.specs.declared.answer.Amount.the-variants as amount
+use Rattle.document.specs.declared.answer.Amount.{Amount}
+use Rattle.document.specs.declared.answer.Amount.the-variants as amount
 use Rattle.ranks.specs.Rank.{rankBy}
-use Rattle.ranks.specs.Promise.{rankAnswer}
+use Rattle.document.specs.Answers.{rankAnswer}
 use Rattle.ranks.proofs.Ranks.{rank-is}
 use Rattle.cuts.specs.Plan.{narrowed, amountOf, rankOf, boundaryBy}
 use Rattle.cuts.proofs.Narrowing.{First, narrowed-between, narrowed-first}

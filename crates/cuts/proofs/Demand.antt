@@ -8,11 +8,11 @@ use Rattle.sums.specs.Cuts.{size, parts, Interval, inside, part, held, Cutting}
 use Rattle.sums.specs.Planned.{Planned}
 use Rattle.sums.proofs.Theorems.{planned}
 use Rattle.layout.specs.Mem.{Mem}
-use Rattle.layout.specs.Meaning.{holds}
-use Rattle.cuts.specs.Plan.{planOf}
-use Rattle.cuts.specs.Promise.{Plans}
-use Rattle.cuts.specs.Spans.{intervalOf, spanAt}
-use Rattle.cuts.specs.declared.plan.Planning.the-variants.{Made}
+use Rattle.layout.specs.Meaning.{holds, stateOf}
+use Rattle.document.specs.Plan.{planOf}
+use Rattle.document.specs.Plan.{PlansFor}
+use Rattle.document.specs.Spans.{intervalOf, spanAt}
+use Rattle.document.specs.declared.plan.Planning.the-variants.{Made}
 use Rattle.cuts.proofs.Intervals.{span-part, plans-bounded}
 
 -- n intervals that are those of a plan are a plan
@@ -36,7 +36,7 @@ module _ (P : Ids) (S n : ℕ) (cut other : ℕ → Interval) (same : (k : ℕ) 
   }
 
 -- whatever boundaries a planning left
-pub spans-planned : {x : Mem} {S : ℕ} {bs cs : List ℤ} → Plans x S bs (Made (planOf (total (holds x)) S)) cs
+pub spans-planned : {x : Mem} {S : ℕ} {bs cs : List ℤ} → PlansFor (stateOf x) S bs (Made (planOf (total (holds x)) S)) cs
     → Planned (holds x) S (parts (total (holds x)) S) (λ (k : ℕ). intervalOf (spanAt (planOf (total (holds x)) S) cs k))
 spans-planned {x} {S} {bs} {cs} p =
     planned-same (holds x) S (parts (total (holds x)) S) (λ (k : ℕ). intervalOf (spanAt (planOf (total (holds x)) S) cs k)) (part (holds x) S) (span-part (holds x) S cs (plans-bounded p)) (planned (holds x) S)

@@ -14,18 +14,18 @@ use Rattle.sums.proofs.Least.{least-one}
 use Rattle.sums.proofs.Parts.{boundary-is, high-last, high-next}
 use Rattle.sums.proofs.Held.{part-held}
 use Rattle.layout.specs.Mem.{Mem}
-use Rattle.layout.specs.Meaning.{holds, ranked}
-use Rattle.cuts.specs.Plan.{planOf}
-use Rattle.cuts.specs.Promise.{planAnswer, Plans}
-use Rattle.cuts.specs.Spans.{intervalOf, recordOk, planOk, lowAt, spanAt, idsBy, ranksBy}
-use Rattle.cuts.specs.declared.plan.Plan.{Plan}
-use Rattle.cuts.specs.declared.plan.Planning.the-variants.{Made, Refused}
-use Rattle.cuts.specs.declared.plan.Span.{Span}
-use Rattle.cuts.specs.declared.plan.Span.the-variants.{Between, From}
-use Rattle.cuts.specs.declared.plan.Spanned.{Spanned}
-use Rattle.cuts.specs.declared.plan.Spanned.the-variants as spanned
-use Rattle.cuts.specs.declared.plan.Ranks.{Ranks}
-use Rattle.cuts.specs.declared.plan.Ranks.the-variants as ranks
+use Rattle.layout.specs.Meaning.{holds, ranked, stateOf}
+use Rattle.document.specs.Plan.{planOf}
+use Rattle.document.specs.Plan.{planAnswer, PlansFor}
+use Rattle.document.specs.Spans.{intervalOf, recordOk, planOk, lowAt, spanAt, idsAnswer, ranksAnswer}
+use Rattle.document.specs.declared.plan.Plan.{Plan}
+use Rattle.document.specs.declared.plan.Planning.the-variants.{Made, Refused}
+use Rattle.document.specs.declared.plan.Span.{Span}
+use Rattle.document.specs.declared.plan.Span.the-variants.{Between, From}
+use Rattle.document.specs.declared.plan.Spanned.{Spanned}
+use Rattle.document.specs.declared.plan.Spanned.the-variants as spanned
+use Rattle.document.specs.declared.plan.Ranks.{Ranks}
+use Rattle.document.specs.declared.plan.Ranks.the-variants as ranks
 
 abbrev interval : ℤ → End → Interval
 interval z h = record { low = z; high = h }
@@ -36,16 +36,16 @@ module _ (p : Plan) (bs : List ℤ) (k : ℕ) where
   abbrev ids-at : Bool → Bool → Spanned
   ids-at ok there = cond ok (cond there (spanned.Of (spanAt p bs k)) (spanned.Refused 12)) (spanned.Refused 3)
 
-  pub ids-bad : planOk p bs ≡ false → idsBy p bs k ≡ spanned.Refused 3
-  unfolding idsBy
+  pub ids-bad : planOk p bs ≡ false → idsAnswer p bs k ≡ spanned.Refused 3
+  unfolding idsAnswer
   ids-bad e = ap (λ (b : Bool). ids-at b (ltb k (p .partitions))) e
 
-  pub ids-none : planOk p bs ≡ true → p .partitions ≤ k → idsBy p bs k ≡ spanned.Refused 12
-  unfolding idsBy
+  pub ids-none : planOk p bs ≡ true → p .partitions ≤ k → idsAnswer p bs k ≡ spanned.Refused 12
+  unfolding idsAnswer
   ids-none e l = ap₂ ids-at e (le-ltb k (p .partitions) l)
 
-  pub ids-there : planOk p bs ≡ true → k < p .partitions → idsBy p bs k ≡ spanned.Of (spanAt p bs k)
-  unfolding idsBy
+  pub ids-there : planOk p bs ≡ true → k < p .partitions → idsAnswer p bs k ≡ spanned.Of (spanAt p bs k)
+  unfolding idsAnswer
   ids-there e l = ap₂ ids-at e (lt-ltb k (p .partitions) l)
 
   abbrev span-at : Bool → Span
@@ -61,16 +61,16 @@ module _ (p : Plan) (k : ℕ) where
   abbrev ranks-at : Bool → Bool → Ranks
   ranks-at ok there = cond ok (cond there (ranks.Of (k * p .slots) (min (p .slots) (p .total - k * p .slots))) (ranks.Refused 12)) (ranks.Refused 3)
 
-  pub ranks-bad : recordOk p ≡ false → ranksBy p k ≡ ranks.Refused 3
-  unfolding ranksBy
+  pub ranks-bad : recordOk p ≡ false → ranksAnswer p k ≡ ranks.Refused 3
+  unfolding ranksAnswer
   ranks-bad e = ap (λ (b : Bool). ranks-at b (ltb k (p .partitions))) e
 
-  pub ranks-none : recordOk p ≡ true → p .partitions ≤ k → ranksBy p k ≡ ranks.Refused 12
-  unfolding ranksBy
+  pub ranks-none : recordOk p ≡ true → p .partitions ≤ k → ranksAnswer p k ≡ ranks.Refused 12
+  unfolding ranksAnswer
   ranks-none e l = ap₂ ranks-at e (le-ltb k (p .partitions) l)
 
-  pub ranks-there : recordOk p ≡ true → k < p .partitions → ranksBy p k ≡ ranks.Of (k * p .slots) (min (p .slots) (p .total - k * p .slots))
-  unfolding ranksBy
+  pub ranks-there : recordOk p ≡ true → k < p .partitions → ranksAnswer p k ≡ ranks.Of (k * p .slots) (min (p .slots) (p .total - k * p .slots))
+  unfolding ranksAnswer
   ranks-there e l = ap₂ ranks-at e (lt-ltb k (p .partitions) l)
 
 pub low-first : (bs : List ℤ) (k : ℕ) → k ≡ 0 → lowAt bs k ≡ negsuc (2 ^ 63 - 1)
@@ -119,11 +119,11 @@ module _ (P : Ids) (S : ℕ) (cs : List ℤ) (w : Bounded P S cs) where
   plan-ok = ap₂ _&&_ (record-ok (total P) S) (le-leb (parts (total P) S - 1) (length cs) (w .enough))
 
   -- `ids` answers the parts of the set
-  pub ids-part : (k : ℕ) → k < parts (total P) S → idsBy (planOf (total P) S) cs k ≡ spanned.Of (spanAt (planOf (total P) S) cs k)
+  pub ids-part : (k : ℕ) → k < parts (total P) S → idsAnswer (planOf (total P) S) cs k ≡ spanned.Of (spanAt (planOf (total P) S) cs k)
   ids-part k l = ids-there (planOf (total P) S) cs k plan-ok l
 
 -- `ranks` answers a part's first rank and how many members it holds
-pub ranks-part : (P : Ids) (S k : ℕ) → k < parts (total P) S → ranksBy (planOf (total P) S) k ≡ ranks.Of (k * size S) (held P (part P S k))
+pub ranks-part : (P : Ids) (S k : ℕ) → k < parts (total P) S → ranksAnswer (planOf (total P) S) k ≡ ranks.Of (k * size S) (held P (part P S k))
 ranks-part P S k l = ranks-there (planOf (total P) S) k (record-ok (total P) S) l ∙ ap (ranks.Of (k * size S)) (sym (part-held P S k l))
 
 -- a plan was made: there was room
@@ -136,6 +136,6 @@ room-of P S room true e = go (ltb room (parts (total P) S - 1)) refl e
     go false t q = ltb-false room (parts (total P) S - 1) t
 
 -- boundaries as a planning leaves them
-pub plans-bounded : {x : Mem} {S : ℕ} {bs cs : List ℤ} → Plans x S bs (Made (planOf (total (holds x)) S)) cs → Bounded (holds x) S cs
+pub plans-bounded : {x : Mem} {S : ℕ} {bs cs : List ℤ} → PlansFor (stateOf x) S bs (Made (planOf (total (holds x)) S)) cs → Bounded (holds x) S cs
 unfolding planAnswer
 plans-bounded {x} {S} {bs} {cs} p = record { enough = (let l = room-of (holds x) S (length bs) (ranked x) (p .answer) in let e = p .same-length in omega arith); least = p .boundaries refl }

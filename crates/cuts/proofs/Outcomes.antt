@@ -11,13 +11,13 @@ use Rattle.sums.specs.Cuts.{size, parts}
 use Rattle.sums.proofs.Rounding.{parts-tight}
 use Rattle.layout.specs.Mem.{Mem}
 use Rattle.layout.specs.Sizes.{modeAt, totalAt}
-use Rattle.layout.specs.Meaning.{ranked}
+use Rattle.layout.specs.Meaning.{ranked, stateOf}
 use Rattle.layout.specs.Follows.{Follows}
 use Rattle.layout.specs.Tests.{walked}
 use Rattle.cuts.specs.Plan.{boundsTo, cut, planBy}
-use Rattle.cuts.specs.Promise.{Plans}
-use Rattle.cuts.specs.declared.plan.Planning.{Planning}
-use Rattle.cuts.specs.declared.plan.Planning.the-variants.{Made, Refused}
+use Rattle.document.specs.Plan.{PlansFor}
+use Rattle.document.specs.declared.plan.Planning.{Planning}
+use Rattle.document.specs.declared.plan.Planning.the-variants.{Made, Refused}
 use Rattle.cuts.proofs.Plans.{plan-bad, plan-open, plan-short, plan-made, plans-by}
 
 -- the last boundary's rank is below the total
@@ -31,7 +31,7 @@ last-fits t S n e l = go (n - 1) refl
 module _ (x : Mem) (S : ℕ) (bs : List ℤ) where
   -- the two clauses of the contract
   abbrev pub Leaves : Planning → List ℤ → Type 0
-  Leaves a cs = (cut a cs ≡ planBy x S bs) × (Follows x → Plans x S bs a cs)
+  Leaves a cs = (cut a cs ≡ planBy x S bs) × (Follows x → PlansFor (stateOf x) S bs a cs)
 
   leaves : (a : Planning) (cs : List ℤ) → planBy x S bs ≡ cut a cs → Leaves a cs
   leaves a cs e = (sym e, plans-by S bs a cs (sym e))

@@ -15,15 +15,16 @@ use Rattle.sums.specs.Cuts.{size, parts}
 use Rattle.sums.proofs.Rounding.{parts-tight}
 use Rattle.layout.specs.Mem.{Mem}
 use Rattle.layout.specs.Sizes.{totalAt}
-use Rattle.layout.specs.Meaning.{holds, ranked}
+use Rattle.layout.specs.Meaning.{holds, ranked, stateOf}
 use Rattle.layout.specs.Follows.{Follows}
 use Rattle.layout.specs.Tests.{walked}
 use Rattle.layout_laws.proofs.Walked.{follows-walked}
 use Rattle.layout_laws.proofs.Ranks.{total-rank}
-use Rattle.cuts.specs.Plan.{boundaryBy, boundsTo, Cut, cut, planOf, planTotal, planBy}
-use Rattle.cuts.specs.Promise.{planAnswer, Plans}
-use Rattle.cuts.specs.declared.plan.Planning.{Planning}
-use Rattle.cuts.specs.declared.plan.Planning.the-variants.{Made, Refused}
+use Rattle.document.specs.Plan.{planOf}
+use Rattle.cuts.specs.Plan.{boundaryBy, boundsTo, Cut, cut, planTotal, planBy}
+use Rattle.document.specs.Plan.{planAnswer, PlansFor}
+use Rattle.document.specs.declared.plan.Planning.{Planning}
+use Rattle.document.specs.declared.plan.Planning.the-variants.{Made, Refused}
 use Rattle.cuts.proofs.Boundaries.{boundary-least}
 
 module _ (x : Mem) (S : ℕ) (bs : List ℤ) where
@@ -125,16 +126,16 @@ module _ {x : Mem} (S : ℕ) (bs : List ℤ) (w : Follows x) where
   abbrev t : ℕ
   t = total (holds x)
 
-  answer-open : ranked x ≡ false → planAnswer x S (length bs) ≡ Refused 5
+  answer-open : ranked x ≡ false → planAnswer (stateOf x) S (length bs) ≡ Refused 5
   unfolding planAnswer
   answer-open r = ap (λ (b : Bool). cond b (cond (ltb (length bs) (parts t S - 1)) (Refused 11) (Made (planOf t S))) (Refused 5)) r
 
-  answer-ranked : ranked x ≡ true → planAnswer x S (length bs) ≡ cond (ltb (length bs) (parts t S - 1)) (Refused 11) (Made (planOf t S))
+  answer-ranked : ranked x ≡ true → planAnswer (stateOf x) S (length bs) ≡ cond (ltb (length bs) (parts t S - 1)) (Refused 11) (Made (planOf t S))
   unfolding planAnswer
   answer-ranked r = ap (λ (b : Bool). cond b (cond (ltb (length bs) (parts t S - 1)) (Refused 11) (Made (planOf t S))) (Refused 5)) r
 
   -- a refusal
-  refuses : (c : ℕ) → planAnswer x S (length bs) ≡ Refused c → Plans x S bs (Refused c) bs
+  refuses : (c : ℕ) → planAnswer (stateOf x) S (length bs) ≡ Refused c → PlansFor (stateOf x) S bs (Refused c) bs
   refuses c e = record {
     answer = sym e;
     refused = λ n q. refl;
@@ -143,7 +144,7 @@ module _ {x : Mem} (S : ℕ) (bs : List ℤ) (w : Follows x) where
     spare = λ k l. refl;
   }
 
-  makes : ranked x ≡ true → parts t S - 1 ≤ length bs → Plans x S bs (Made (planOf t S)) (boundsTo x S bs (parts t S - 1))
+  makes : ranked x ≡ true → parts t S - 1 ≤ length bs → PlansFor (stateOf x) S bs (Made (planOf t S)) (boundsTo x S bs (parts t S - 1))
   makes r l = record {
     answer = sym (answer-ranked r ∙ ap (λ (b : Bool). cond b (Refused 11) (Made (planOf t S))) (le-ltb (length bs) (parts t S - 1) l));
     refused = λ n q. absurd (let z : _≡_ {A = ℕ} 0 1 = cc in omega arith);
@@ -152,13 +153,13 @@ module _ {x : Mem} (S : ℕ) (bs : List ℤ) (w : Follows x) where
     spare = λ k m. bounds-past x S bs (parts t S - 1) k m;
   }
 
-  pub plan-says : Plans x S bs (planBy x S bs .answer) (planBy x S bs .bounds)
+  pub plan-says : PlansFor (stateOf x) S bs (planBy x S bs .answer) (planBy x S bs .bounds)
   plan-says = go (ranked x) refl (ltb (length bs) (parts t S - 1)) refl
     where
-      by : (c : Cut) → planBy x S bs ≡ c → Plans x S bs (c .answer) (c .bounds) → Plans x S bs (planBy x S bs .answer) (planBy x S bs .bounds)
-      by c e p = subst (λ (k : Cut). Plans x S bs (k .answer) (k .bounds)) (sym e) p
+      by : (c : Cut) → planBy x S bs ≡ c → PlansFor (stateOf x) S bs (c .answer) (c .bounds) → PlansFor (stateOf x) S bs (planBy x S bs .answer) (planBy x S bs .bounds)
+      by c e p = subst (λ (k : Cut). PlansFor (stateOf x) S bs (k .answer) (k .bounds)) (sym e) p
 
-      go : (a : Bool) → ranked x ≡ a → (b : Bool) → ltb (length bs) (parts t S - 1) ≡ b → Plans x S bs (planBy x S bs .answer) (planBy x S bs .bounds)
+      go : (a : Bool) → ranked x ≡ a → (b : Bool) → ltb (length bs) (parts t S - 1) ≡ b → PlansFor (stateOf x) S bs (planBy x S bs .answer) (planBy x S bs .bounds)
       go false r b e = by (cut (Refused 5) bs) (plan-open x S bs (follows-walked w) r) (refuses 5 (answer-open r))
       go true r true e =
           let q = total-rank w r in
@@ -171,5 +172,5 @@ module _ {x : Mem} (S : ℕ) (bs : List ℤ) (w : Follows x) where
           (plan-made x S bs (follows-walked w) r (rw q l) ∙ ap (λ (k : ℕ). cut (Made (planOf k S)) (boundsTo x S bs (parts k S - 1))) q) (makes r l)
 
 -- what the code leaves, by what it equals
-pub plans-by : {x : Mem} (S : ℕ) (bs : List ℤ) (a : Planning) (cs : List ℤ) → cut a cs ≡ planBy x S bs → Follows x → Plans x S bs a cs
-plans-by {x} S bs a cs e w = subst (λ (k : Cut). Plans x S bs (k .answer) (k .bounds)) (sym e) (plan-says S bs w)
+pub plans-by : {x : Mem} (S : ℕ) (bs : List ℤ) (a : Planning) (cs : List ℤ) → cut a cs ≡ planBy x S bs → Follows x → PlansFor (stateOf x) S bs a cs
+plans-by {x} S bs a cs e w = subst (λ (k : Cut). PlansFor (stateOf x) S bs (k .answer) (k .bounds)) (sym e) (plan-says S bs w)

@@ -10,8 +10,8 @@ use mir.Syntax.{w64}
 use mir.Val.{Fits}
 use Rattle.sums.specs.Cuts.{size, parts}
 use Rattle.sums.proofs.Rounding.{parts-tight}
-use Rattle.cuts.specs.Spans.{recordOk}
-use Rattle.cuts.specs.declared.plan.Plan.{Plan}
+use Rattle.document.specs.Spans.{recordOk}
+use Rattle.document.specs.declared.plan.Plan.{Plan}
 
 pub parts-none : (t s : ℕ) → t ≡ 0 → 1 ≡ parts t s
 parts-none t s e =

@@ -9,12 +9,12 @@ use Rattle.sums.specs.Cuts.{size, parts}
 use Rattle.layout.specs.Mem.{Mem}
 use Rattle.layout.specs.Sizes.{modeAt, totalAt}
 use Rattle.layout.specs.Tests.{walked}
-use Rattle.layout.specs.declared.answer.Amount.{Amount}
-use Rattle.layout.specs.declared.answer.Amount.the-variants as amount
+use Rattle.document.specs.declared.answer.Amount.{Amount}
+use Rattle.document.specs.declared.answer.Amount.the-variants as amount
 use Rattle.ranks.specs.Rank.{rankBy}
-use Rattle.cuts.specs.declared.plan.Plan.{Plan}
-use Rattle.cuts.specs.declared.plan.Planning.{Planning}
-use Rattle.cuts.specs.declared.plan.Planning.the-variants.{Made, Refused}
+use Rattle.document.specs.declared.plan.Plan.{Plan}
+use Rattle.document.specs.declared.plan.Planning.{Planning}
+use Rattle.document.specs.declared.plan.Planning.the-variants.{Made, Refused}
 
 -- the search narrows lo to hi until one id is left, turns times at most
 unfoldable pub narrowIn : ℕ → (ℕ → ℕ) → ℕ → ℕ → ℕ → ℕ
@@ -51,9 +51,6 @@ pub record Cut : Type 0 where
 
 abbrev pub cut : Planning → List ℤ → Cut
 cut a bs = record { answer = a; bounds = bs }
-
-abbrev pub planOf : ℕ → ℕ → Plan
-planOf t S = record { total = t; slots = size S; partitions = parts t S }
 
 abbrev pub planTotal : Mem → ℕ → List ℤ → ℕ → Cut
 planTotal x S bs t = cond (ltb (length bs) (parts t S - 1)) (cut (Refused 11) bs) (cut (Made (planOf t S)) (boundsTo x S bs (parts t S - 1)))

@@ -1,12 +1,12 @@
 // The intervals of a plan and its boundaries, and what lies in them. Both come from the caller: they are tested before they are used.
 ghost use mathlib.Core.Path.{_≡_};
 ghost use Rattle.sums.specs.Cuts.{inside};
-ghost use Rattle.cuts.specs.Spans.{intervalOf, recordOk, planOk, lowAt, idsBy, ranksBy, meets};
+ghost use Rattle.document.specs.Spans.{intervalOf, recordOk, planOk, lowAt, idsAnswer, ranksAnswer, rangeMeets};
 use crate::bound;
-use crate::plan::Plan;
-use crate::plan::Ranks;
-use crate::plan::Span;
-use crate::plan::Spanned;
+use document::plan::Plan;
+use document::plan::Ranks;
+use document::plan::Span;
+use document::plan::Spanned;
 use crate::round;
 use numbers::order;
 
@@ -46,7 +46,7 @@ fn low(bounds: &[i64], k: u64) -> i64
 
 // Partition k's interval of ids.
 pub fn ids(p: Plan, bounds: &[i64], k: u64) -> Spanned
-    ensures { λ a. ⌜ a ≡ idsBy p (now (bounds .entry)) k ⌝ }
+    ensures { λ a. ⌜ a ≡ idsAnswer p (now (bounds .entry)) k ⌝ }
 {
     if !plan_ok(p, bounds) {
         return Spanned::Refused(3);
@@ -64,7 +64,7 @@ pub fn ids(p: Plan, bounds: &[i64], k: u64) -> Spanned
 
 // Partition k's first rank and how many members it holds.
 pub fn ranks(p: Plan, k: u64) -> Ranks
-    ensures { λ a. ⌜ a ≡ ranksBy p k ⌝ }
+    ensures { λ a. ⌜ a ≡ ranksAnswer p k ⌝ }
 {
     if !record_ok(p) {
         return Ranks::Refused(3);
@@ -86,9 +86,9 @@ pub fn in_partition(id: i64, i: Span) -> bool
     }
 }
 
-// Whether a range of ids, both ends included, meets an interval.
+// Whether a range of ids, both ends included, rangeMeets an interval.
 pub fn range_meets(min: i64, max: i64, i: Span) -> bool
-    ensures { λ b. ⌜ b ≡ meets min max i ⌝ }
+    ensures { λ b. ⌜ b ≡ rangeMeets min max i ⌝ }
 {
     match i {
         Span::Between(lo, hi) => (lo <= max) & (min < hi),

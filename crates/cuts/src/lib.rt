@@ -1,7 +1,6 @@
 // The plan: boundaries of a ranked set, and the intervals between them.
 mod bound;
 pub mod interval;
-pub mod plan;
 pub mod planning;
 mod round;
 mod search;

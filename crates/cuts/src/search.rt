@@ -4,7 +4,7 @@ ghost use Prim.Native.Nat.{_^_, _≤_, _<_};
 ghost use lib.IntN.{pos};
 ghost use Rattle.layout.specs.Mem.{memOf};
 ghost use Rattle.cuts.specs.Plan.{narrowed, rankOf, boundaryBy};
-use layout::answer::Amount;
+use document::answer::Amount;
 use numbers::id;
 use ranked::rank;
 

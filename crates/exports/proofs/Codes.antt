@@ -7,22 +7,22 @@ use mir.Syntax.{w64}
 use mir.Val.{SFits, ofZ, toZ}
 use mir.Facts.{toZ-ofZ}
 use Rattle.layout.specs.Mem.{Mem}
-use Rattle.layout.specs.declared.answer.Outcome.{Outcome}
-use Rattle.layout.specs.declared.answer.Outcome.the-variants as outcome
-use Rattle.layout.specs.declared.answer.Truth.{Truth}
-use Rattle.layout.specs.declared.answer.Truth.the-variants as truth
-use Rattle.layout.specs.declared.answer.Amount.{Amount}
-use Rattle.layout.specs.declared.answer.Amount.the-variants as amount
-use Rattle.layout.specs.declared.answer.Perhaps.{Perhaps}
-use Rattle.layout.specs.declared.answer.Perhaps.the-variants as perhaps
-use Rattle.cuts.specs.declared.plan.Planning.{Planning}
-use Rattle.cuts.specs.declared.plan.Planning.the-variants as planning
-use Rattle.cuts.specs.declared.plan.Span.{Span}
-use Rattle.cuts.specs.declared.plan.Span.the-variants as span
-use Rattle.cuts.specs.declared.plan.Spanned.{Spanned}
-use Rattle.cuts.specs.declared.plan.Spanned.the-variants as spanned
-use Rattle.cuts.specs.declared.plan.Ranks.{Ranks}
-use Rattle.cuts.specs.declared.plan.Ranks.the-variants as ranks
+use Rattle.document.specs.declared.answer.Outcome.{Outcome}
+use Rattle.document.specs.declared.answer.Outcome.the-variants as outcome
+use Rattle.document.specs.declared.answer.Truth.{Truth}
+use Rattle.document.specs.declared.answer.Truth.the-variants as truth
+use Rattle.document.specs.declared.answer.Amount.{Amount}
+use Rattle.document.specs.declared.answer.Amount.the-variants as amount
+use Rattle.document.specs.declared.answer.Perhaps.{Perhaps}
+use Rattle.document.specs.declared.answer.Perhaps.the-variants as perhaps
+use Rattle.document.specs.declared.plan.Planning.{Planning}
+use Rattle.document.specs.declared.plan.Planning.the-variants as planning
+use Rattle.document.specs.declared.plan.Span.{Span}
+use Rattle.document.specs.declared.plan.Span.the-variants as span
+use Rattle.document.specs.declared.plan.Spanned.{Spanned}
+use Rattle.document.specs.declared.plan.Spanned.the-variants as spanned
+use Rattle.document.specs.declared.plan.Ranks.{Ranks}
+use Rattle.document.specs.declared.plan.Ranks.the-variants as ranks
 use Rattle.exports.specs.declared.answer.Answer.{Answer}
 use Rattle.exports.specs.declared.cut.PlanAnswer.{PlanAnswer}
 use Rattle.exports.specs.declared.cut.IdsAnswer.{IdsAnswer}

@@ -7,27 +7,27 @@ use lib.IntN.{ℤ, pos}
 use Rattle.layout.specs.Mem.{Mem}
 use Rattle.layout.specs.SetUp.{did}
 use Rattle.layout.specs.Follows.{Follows}
-use Rattle.layout.specs.declared.answer.Outcome.{Outcome}
-use Rattle.layout.specs.declared.answer.Outcome.the-variants as outcome
-use Rattle.layout.specs.declared.answer.Truth.{Truth}
-use Rattle.layout.specs.declared.answer.Truth.the-variants as truth
-use Rattle.layout.specs.declared.answer.Amount.{Amount}
-use Rattle.layout.specs.declared.answer.Amount.the-variants as amount
-use Rattle.layout.specs.declared.answer.Perhaps.{Perhaps}
-use Rattle.layout.specs.declared.answer.Perhaps.the-variants as perhaps
+use Rattle.document.specs.declared.answer.Outcome.{Outcome}
+use Rattle.document.specs.declared.answer.Outcome.the-variants as outcome
+use Rattle.document.specs.declared.answer.Truth.{Truth}
+use Rattle.document.specs.declared.answer.Truth.the-variants as truth
+use Rattle.document.specs.declared.answer.Amount.{Amount}
+use Rattle.document.specs.declared.answer.Amount.the-variants as amount
+use Rattle.document.specs.declared.answer.Perhaps.{Perhaps}
+use Rattle.document.specs.declared.answer.Perhaps.the-variants as perhaps
 use Rattle.calls.specs.Prepare.{prepareBy}
-use Rattle.calls.specs.Promise.{Prepares}
+use Rattle.calls.proofs.Outcomes.{Prepares}
 use Rattle.cuts.specs.Plan.{cut, planBy}
 use Rattle.cuts.specs.Promise.{Plans}
-use Rattle.cuts.specs.declared.plan.Plan.{Plan}
-use Rattle.cuts.specs.declared.plan.Planning.{Planning}
-use Rattle.cuts.specs.declared.plan.Planning.the-variants as planning
-use Rattle.cuts.specs.declared.plan.Span.{Span}
-use Rattle.cuts.specs.declared.plan.Span.the-variants as span
-use Rattle.cuts.specs.declared.plan.Spanned.{Spanned}
-use Rattle.cuts.specs.declared.plan.Spanned.the-variants as spanned
-use Rattle.cuts.specs.declared.plan.Ranks.{Ranks}
-use Rattle.cuts.specs.declared.plan.Ranks.the-variants as ranks
+use Rattle.document.specs.declared.plan.Plan.{Plan}
+use Rattle.document.specs.declared.plan.Planning.{Planning}
+use Rattle.document.specs.declared.plan.Planning.the-variants as planning
+use Rattle.document.specs.declared.plan.Span.{Span}
+use Rattle.document.specs.declared.plan.Span.the-variants as span
+use Rattle.document.specs.declared.plan.Spanned.{Spanned}
+use Rattle.document.specs.declared.plan.Spanned.the-variants as spanned
+use Rattle.document.specs.declared.plan.Ranks.{Ranks}
+use Rattle.document.specs.declared.plan.Ranks.the-variants as ranks
 use Rattle.exports.specs.declared.answer.Answer.{Answer}
 use Rattle.exports.specs.declared.cut.PlanAnswer.{PlanAnswer}
 use Rattle.exports.specs.declared.cut.IdsAnswer.{IdsAnswer}
@@ -36,16 +36,16 @@ use Rattle.exports.specs.declared.cut.RanksAnswer.{RanksAnswer}
 abbrev pub code : ℕ → ℕ → Answer
 code k v = record { kind = k; value = v }
 
-abbrev pub digit : Bool → ℕ
-digit false = 0
-digit true = 1
+abbrev pub oneIf : Bool → ℕ
+oneIf false = 0
+oneIf true = 1
 
 abbrev pub outcomeCode : Outcome → Answer
 outcomeCode outcome.Done = code 0 0
 outcomeCode (outcome.Refused n) = code 2 n
 
 abbrev pub truthCode : Truth → Answer
-truthCode (truth.Is b) = code 1 (digit b)
+truthCode (truth.Is b) = code 1 (oneIf b)
 truthCode (truth.Refused n) = code 2 n
 
 abbrev pub amountCode : Amount → Answer

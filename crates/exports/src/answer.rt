@@ -1,10 +1,10 @@
 // An answer for C: one definition for each kind of answer gives document 01's number and values, case by case.
 ghost use mathlib.Core.Path.{_≡_};
 ghost use Rattle.exports.specs.Codes.{outcomeCode, truthCode, amountCode, perhapsCode};
-use layout::answer::Amount;
-use layout::answer::Outcome;
-use layout::answer::Perhaps;
-use layout::answer::Truth;
+use document::answer::Amount;
+use document::answer::Outcome;
+use document::answer::Perhaps;
+use document::answer::Truth;
 
 // kind 0: done, or none. 1: a value (no is 0, yes is 1). 2: refused, and the value is document 01's number.
 #[repr(C)]

@@ -2,8 +2,8 @@
 ghost use mathlib.Core.Path.{_≡_};
 ghost use Rattle.layout.specs.Mem.{memOf};
 ghost use Rattle.layout.specs.SetUp.{did, sizesOf, setUpBy};
-ghost use Rattle.layout.specs.declared.answer.Outcome.{Outcome};
-ghost use Rattle.layout.specs.declared.answer.Truth.{Truth};
+ghost use Rattle.document.specs.declared.answer.Outcome.{Outcome};
+ghost use Rattle.document.specs.declared.answer.Truth.{Truth};
 ghost use Rattle.inserts.specs.Calls.{Sets, SetsIfNew, SetsPrepared};
 ghost use Rattle.ranked.specs.Answers.{RankedUp, Opened};
 ghost use Rattle.exports.specs.Codes.{Coded, outcomeCode, truthCode, PreAllocates};

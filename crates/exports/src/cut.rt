@@ -1,10 +1,10 @@
 // A plan's answers for C: one definition for each kind of answer gives document 01's number and values, case by case.
 ghost use mathlib.Core.Path.{_≡_};
 ghost use Rattle.exports.specs.Codes.{planningCode, spanCode, spannedCode, ranksCode};
-use cuts::plan::Planning;
-use cuts::plan::Ranks;
-use cuts::plan::Span;
-use cuts::plan::Spanned;
+use document::plan::Planning;
+use document::plan::Ranks;
+use document::plan::Span;
+use document::plan::Spanned;
 
 // kind 1: made. 2: refused, and refusal is document 01's number. Where one isn't said it is 0, here and below.
 #[repr(C)]

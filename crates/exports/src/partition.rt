@@ -2,16 +2,16 @@
 ghost use mathlib.Core.Path.{_≡_};
 ghost use Rattle.sums.specs.Cuts.{inside};
 ghost use Rattle.layout.specs.Mem.{memOf};
-ghost use Rattle.cuts.specs.Spans.{intervalOf, idsBy, ranksBy, meets};
-ghost use Rattle.cuts.specs.declared.plan.Planning.{Planning};
+ghost use Rattle.document.specs.Spans.{intervalOf, idsAnswer, ranksAnswer, rangeMeets};
+ghost use Rattle.document.specs.declared.plan.Planning.{Planning};
 ghost use Rattle.exports.specs.Codes.{Coded, PlansBy, planningCode, spannedCode, ranksCode, planIn, spanIn};
 use crate::cut;
 use crate::cut::IdsAnswer;
 use crate::cut::PlanAnswer;
 use crate::cut::RanksAnswer;
 use cuts::interval;
-use cuts::plan::Plan;
-use cuts::plan::Span;
+use document::plan::Plan;
+use document::plan::Span;
 use cuts::planning;
 
 // Cuts a ranked set into partitions of at most s members: boundaries to the lent slice.
@@ -49,7 +49,7 @@ pub extern "C" fn bp_ids(
     bounds: &[i64],
     k: u64,
 ) -> IdsAnswer
-    ensures { λ r. ⌜ r ≡ spannedCode (idsBy (planIn total slots partitions) (now (bounds .entry)) k) ⌝ }
+    ensures { λ r. ⌜ r ≡ spannedCode (idsAnswer (planIn total slots partitions) (now (bounds .entry)) k) ⌝ }
 {
     cut::of_spanned(interval::ids(plan_of(total, slots, partitions), bounds, k))
 }
@@ -57,7 +57,7 @@ pub extern "C" fn bp_ids(
 // Partition k's first rank and how many members it holds.
 #[no_mangle]
 pub extern "C" fn bp_ranks(total: u64, slots: u64, partitions: u64, k: u64) -> RanksAnswer
-    ensures { λ r. ⌜ r ≡ ranksCode (ranksBy (planIn total slots partitions) k) ⌝ }
+    ensures { λ r. ⌜ r ≡ ranksCode (ranksAnswer (planIn total slots partitions) k) ⌝ }
 {
     cut::of_ranks(interval::ranks(plan_of(total, slots, partitions), k))
 }
@@ -80,10 +80,10 @@ pub extern "C" fn bp_in_partition(id: i64, has_high: bool, low: i64, high: i64) 
     interval::in_partition(id, span_of(has_high, low, high))
 }
 
-// Whether a range of ids, both ends included, meets an interval.
+// Whether a range of ids, both ends included, rangeMeets an interval.
 #[no_mangle]
 pub extern "C" fn bp_range_meets(min: i64, max: i64, has_high: bool, low: i64, high: i64) -> bool
-    ensures { λ b. ⌜ b ≡ meets min max (spanIn «has_high» low high) ⌝ }
+    ensures { λ b. ⌜ b ≡ rangeMeets min max (spanIn «has_high» low high) ⌝ }
 {
     interval::range_meets(min, max, span_of(has_high, low, high))
 }

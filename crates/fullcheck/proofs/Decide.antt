@@ -13,16 +13,17 @@ use Rattle.sums.specs.Rules.{allTo, Decides}
 use Rattle.sums.proofs.Rules.{all-of, and-of, unless-of, if-of, same-of, leb-of, ltb-of, eqb-of}
 use Rattle.dense.specs.Bits.{bitsTo}
 use Rattle.layout.specs.Mem.{Mem}
-use Rattle.layout.specs.Sizes.{top, wide, blocksOf, overAt, head, overCount, totalAt}
-use Rattle.layout.specs.Places.{isSparse, isDense, rowPart, pagePart, rowOwner, pageOwner}
+use Rattle.document.specs.Sizes.{top}
+use Rattle.layout.specs.Sizes.{wide, blocksOf, overAt, head, overCount, totalAt}
+use Rattle.layout.specs.Places.{hasRow, hasPage, rowPart, pagePart, rowOwner, pageOwner}
 use Rattle.layout.specs.Entries.{entries, prefixAt, placeAt}
 use Rattle.layout.specs.Follows.{AllZero, Listed, RowListed, membersAt, kept, Laid, Follows}
 use Rattle.layout.specs.Tests.{Walked, walked}
 use Rattle.layout.proofs.Tests.{always, walked-of}
-use Rattle.layout.specs.declared.head.Header.{Header}
+use Rattle.document.specs.declared.sizes.Sizes.{Sizes}
 use Rattle.layout.specs.declared.place.Place.{Place}
 use Rattle.layout.specs.declared.place.Place.the-variants.{Absent, Sparse, Dense}
-use Rattle.fullcheck.specs.Check.{Sound, zeroAt, zeros, overSet, offsetIs, listIs, listAt, rowIs, freeRow, freePage, kindAt, countsAre, sizeAt, rankedAt, prefixIs, totalIs, blockIs, pageBlocks, tableRest, rowsAre, ranksAre, restIs, checked}
+use Rattle.fullcheck.specs.Check.{WalkShown, zeroAt, zeros, overSet, offsetIs, listIs, listAt, rowIs, freeRowIs, freePageIs, kindAt, countsAre, sizeOfEntry, rankedAt, prefixIs, totalIs, blockIs, pageBlocks, tableRest, rowsAre, ranksAre, restIs, checked}
 
 -- no to P is yes to its denial
 not-sound : (a : Bool) {P : Type 0} → Decides a P → not a ≡ true → P → ⊥
@@ -49,7 +50,7 @@ offset-of : (row : List ℕ) (u l i : ℕ) → Decides (offsetIs row u l i) (Off
 unfolding offsetIs Offset
 offset-of row u l i = and-of (ltb-of (getD row i 0) u) (unless-of (leb-of l (i + 1)) (ltb-of (getD row i 0) (getD row (i + 1) 0)))
 
-list-of : (h : Header) (row : List ℕ) (l : ℕ) → Decides (listIs h row l) (Listed h row l)
+list-of : (h : Sizes) (row : List ℕ) (l : ℕ) → Decides (listIs h row l) (Listed h row l)
 unfolding listIs Offset
 list-of h row l =
     same-of
@@ -60,12 +61,12 @@ list-of h row l =
     less : {i l : ℕ} → (l ≤ i + 1 → ⊥) → i < l → i + 1 < l
     less n w = omega arith
 
-row-of : (h : Header) (rows : List ℕ) (q : Place) → Decides (listAt h rows q) (RowListed h rows q)
+row-of : (h : Sizes) (rows : List ℕ) (q : Place) → Decides (listAt h rows q) (RowListed h rows q)
 row-of h rows Absent = always
 row-of h rows (Sparse r l) = list-of h (rowPart h rows r) l
 row-of h rows (Dense p) = always
 
-module _ (h : Header) (x : Mem) where
+module _ (h : Sizes) (x : Mem) where
   words-of : Decides (allTo (overSet (x .table) (16 + 2 * h .d)) (overCount (x .table))) ((j : ℕ) → j < overCount (x .table) → getD (x .table) (overAt h j + 1) 0 ≢ 0)
   unfolding overSet
   words-of = all-of (overSet (x .table) (16 + 2 * h .d)) (overCount (x .table)) (λ j l. not-of (eqb-of (getD (x .table) (overAt h j + 1) 0) 0))
@@ -74,17 +75,17 @@ module _ (h : Header) (x : Mem) where
   unfolding rowIs
   lists-of = all-of (rowIs h (x .rows) (x .table)) (entries h (x .table)) (λ e l. row-of h (x .rows) (placeAt h (x .table) e))
 
-  free-rows-of : Decides (allTo (freeRow h (x .rows) (x .table)) (h .r)) ((r : ℕ) → r < h .r → rowOwner h (x .table) r ≡ 0 → AllZero (x .rows) (r * h .m) (h .m))
-  unfolding freeRow
-  free-rows-of = all-of (freeRow h (x .rows) (x .table)) (h .r) (λ r l. if-of (eqb-of (rowOwner h (x .table) r) 0) (zeros-of (x .rows) (r * h .m) (h .m)))
+  free-rows-of : Decides (allTo (freeRowIs h (x .rows) (x .table)) (h .r)) ((r : ℕ) → r < h .r → rowOwner h (x .table) r ≡ 0 → AllZero (x .rows) (r * h .m) (h .m))
+  unfolding freeRowIs
+  free-rows-of = all-of (freeRowIs h (x .rows) (x .table)) (h .r) (λ r l. if-of (eqb-of (rowOwner h (x .table) r) 0) (zeros-of (x .rows) (r * h .m) (h .m)))
 
-  free-pages-of : Decides (allTo (freePage h (x .pages) (x .table)) (h .p)) ((p : ℕ) → p < h .p → pageOwner h (x .table) p ≡ 0 → AllZero (x .pages) (p * wide h) (wide h))
-  unfolding freePage
-  free-pages-of = all-of (freePage h (x .pages) (x .table)) (h .p) (λ p l. if-of (eqb-of (pageOwner h (x .table) p) 0) (zeros-of (x .pages) (p * wide h) (wide h)))
+  free-pages-of : Decides (allTo (freePageIs h (x .pages) (x .table)) (h .p)) ((p : ℕ) → p < h .p → pageOwner h (x .table) p ≡ 0 → AllZero (x .pages) (p * wide h) (wide h))
+  unfolding freePageIs
+  free-pages-of = all-of (freePageIs h (x .pages) (x .table)) (h .p) (λ p l. if-of (eqb-of (pageOwner h (x .table) p) 0) (zeros-of (x .pages) (p * wide h) (wide h)))
 
   counts-of : Decides (countsAre h (x .table))
-      ((count (λ (r : ℕ). not (eqb (rowOwner h (x .table) r) 0)) (h .r) ≡ count (λ (e : ℕ). isSparse (placeAt h (x .table) e)) (entries h (x .table)))
-      × (count (λ (p : ℕ). not (eqb (pageOwner h (x .table) p) 0)) (h .p) ≡ count (λ (e : ℕ). isDense (placeAt h (x .table) e)) (entries h (x .table))))
+      ((count (λ (r : ℕ). not (eqb (rowOwner h (x .table) r) 0)) (h .r) ≡ count (λ (e : ℕ). hasRow (placeAt h (x .table) e)) (entries h (x .table)))
+      × (count (λ (p : ℕ). not (eqb (pageOwner h (x .table) p) 0)) (h .p) ≡ count (λ (e : ℕ). hasPage (placeAt h (x .table) e)) (entries h (x .table))))
   unfolding countsAre kindAt
   counts-of =
       and-of
@@ -94,7 +95,7 @@ module _ (h : Header) (x : Mem) where
   ranks-of : Decides (ranksAre h (x .pages) (x .table))
       (((e : ℕ) → e < entries h (x .table) → prefixAt h (x .table) e ≡ kept x (sumTo (membersAt h x) e))
       × (totalAt (x .table) ≡ kept x (sumTo (membersAt h x) (entries h (x .table)))))
-  unfolding ranksAre prefixIs totalIs membersAt sizeAt
+  unfolding ranksAre prefixIs totalIs membersAt sizeOfEntry
   ranks-of =
       and-of
       (all-of (prefixIs h (x .pages) (x .table)) (entries h (x .table)) (λ e l. eqb-of (prefixAt h (x .table) e) (kept x (sumTo (membersAt h x) e))))
@@ -142,11 +143,11 @@ module _ (h : Header) (x : Mem) where
 
 -- ---- the rest, by slice
 
-module _ (x : Mem) (h : Header) where
-  pub sound-of : Walked x h → Sound h (x .table)
+module _ (x : Mem) (h : Sizes) where
+  pub sound-of : Walked x h → WalkShown h (x .table)
   sound-of w = record { sizes = w .sizes; in-table = w .room .in-table; over-fits = w .over-fits; places = w .places }
 
-  pub rest-passes : (a b d e f : Bool) → a ≡ tableRest h (x .table) → b ≡ rowsAre h (x .rows) (x .table) → d ≡ allTo (freePage h (x .pages) (x .table)) (h .p) → e ≡ ranksAre h (x .pages) (x .table) → f ≡ allTo (pageBlocks h (x .pages) (x .blocks) (rankedAt (x .table))) (h .p) → (a && b && d && e && f) ≡ restIs h x
+  pub rest-passes : (a b d e f : Bool) → a ≡ tableRest h (x .table) → b ≡ rowsAre h (x .rows) (x .table) → d ≡ allTo (freePageIs h (x .pages) (x .table)) (h .p) → e ≡ ranksAre h (x .pages) (x .table) → f ≡ allTo (pageBlocks h (x .pages) (x .blocks) (rankedAt (x .table))) (h .p) → (a && b && d && e && f) ≡ restIs h x
   unfolding restIs
   rest-passes a b d e f p q r s t = ap₂ _&&_ (ap₂ _&&_ (ap₂ _&&_ (ap₂ _&&_ p q) r) s) t
 
@@ -176,10 +177,10 @@ module _ (x : Mem) (a : Bool) (p : a ≡ walked x) where
   unfolding checked
   walk-no n = ap (λ (b : Bool). b && restIs (head x) x) (sym n ∙ p)
 
-  module _ (h : Header) (e : h ≡ head x) (y : a ≡ true) where
+  module _ (h : Sizes) (e : h ≡ head x) (y : a ≡ true) where
     pub walk-yes : Walked x h
     walk-yes = subst (Walked x) (sym e) (walked-of x .sound (sym p ∙ y))
 
     pub all-told : (b : Bool) → b ≡ restIs h x → b ≡ checked x
     unfolding checked
-    all-told b q = q ∙ (ap (λ (g : Header). restIs g x) e ∙ ap (λ (b : Bool). b && restIs (head x) x) (sym y ∙ p))
+    all-told b q = q ∙ (ap (λ (g : Sizes). restIs g x) e ∙ ap (λ (b : Bool). b && restIs (head x) x) (sym y ∙ p))

@@ -13,14 +13,15 @@ use Rattle.numbers.proofs.Powers.{powers}
 use Rattle.dense.specs.Bits.{bitsTo}
 use Rattle.dense.proofs.Counts.{bits-zero, bits-le}
 use Rattle.dense.proofs.Parts.{bits-part}
-use Rattle.layout.specs.Sizes.{InRange, top, wide, blocksOf, totalAt}
+use Rattle.document.specs.Sizes.{InRange, top}
+use Rattle.layout.specs.Sizes.{wide, blocksOf, totalAt}
 use Rattle.layout.specs.Places.{pagePart}
 use Rattle.layout.specs.Entries.{entries, chunkAt, prefixAt, placeAt}
 use Rattle.layout.specs.Follows.{Owned, sizeOf}
-use Rattle.layout.specs.declared.head.Header.{Header}
+use Rattle.document.specs.declared.sizes.Sizes.{Sizes}
 use Rattle.layout.specs.declared.place.Place.{Place}
 use Rattle.layout.specs.declared.place.Place.the-variants.{Absent, Sparse, Dense}
-use Rattle.fullcheck.specs.Check.{Sound, sizeAt, rankedAt, keptIf, prefixIs, totalIs, ranksAre, blockIs, pageBlocks}
+use Rattle.fullcheck.specs.Check.{WalkShown, sizeOfEntry, rankedAt, keptIf, prefixIs, totalIs, ranksAre, blockIs, pageBlocks}
 use Rattle.fullcheck.proofs.Ways.{part-length, part-is}
 
 -- ---- what is kept of a count
@@ -45,42 +46,42 @@ kept-le false a n l = omega arith
 
 -- ---- members
 
-pub page-counted : (h : Header) (pages : List ℕ) (a w p : ℕ) {k : ℕ} → InRange h → a ≡ p * wide h → w ≡ wide h → a + w ≤ length pages → k ≡ bitsTo (take (a + w - a) (drop a pages)) (64 * length (take (a + w - a) (drop a pages))) → k ≡ bitsTo (pagePart h pages p) (top h)
+pub page-counted : (h : Sizes) (pages : List ℕ) (a w p : ℕ) {k : ℕ} → InRange h → a ≡ p * wide h → w ≡ wide h → a + w ≤ length pages → k ≡ bitsTo (take (a + w - a) (drop a pages)) (64 * length (take (a + w - a) (drop a pages))) → k ≡ bitsTo (pagePart h pages p) (top h)
 page-counted h pages a w p i e f l d =
     let n : 64 * length (take (a + w - a) (drop a pages)) ≡ top h = omega (arith, part-length pages a w l, powers (h .s) (i .s-low) (i .s-high)) in
     d ∙ ap₂ bitsTo (part-is pages a w (p * wide h) (wide h) e f) n
 
-size-small : (h : Header) (pages t : List ℕ) (c : ℕ) (q : Place) → InRange h → Owned h t c q → sizeOf h pages q ≤ 33554432
+size-small : (h : Sizes) (pages t : List ℕ) (c : ℕ) (q : Place) → InRange h → Owned h t c q → sizeOf h pages q ≤ 33554432
 size-small h pages t c Absent i o = omega arith
 size-small h pages t c (Sparse r l) i o = omega (arith, o .short, i .m-high)
 size-small h pages t c (Dense p) i o = omega (arith, bits-le (pagePart h pages p) (top h), powers (h .s) (i .s-low) (i .s-high))
 
-module _ (h : Header) (pages t : List ℕ) (r : Bool) (e : ℕ) where
+module _ (h : Sizes) (pages t : List ℕ) (r : Bool) (e : ℕ) where
   -- an entry's place q, found to be p
-  pub size-passes : {q : Place} {k : ℕ} → q ≡ placeAt h t e → (p : Place) → q ≡ p → k ≡ sizeOf h pages p → k ≡ sizeAt h pages t e
-  unfolding sizeAt
+  pub size-passes : {q : Place} {k : ℕ} → q ≡ placeAt h t e → (p : Place) → q ≡ p → k ≡ sizeOf h pages p → k ≡ sizeOfEntry h pages t e
+  unfolding sizeOfEntry
   size-passes s p f d = d ∙ ap (sizeOf h pages) (sym f ∙ s)
 
-  pub size-le : Sound h t → e < entries h t → keptIf r (sizeAt h pages t e) ≤ 33554432
-  unfolding sizeAt
+  pub size-le : WalkShown h t → e < entries h t → keptIf r (sizeOfEntry h pages t e) ≤ 33554432
+  unfolding sizeOfEntry
   size-le o l = kept-le r (sizeOf h pages (placeAt h t e)) 33554432 (size-small h pages t (chunkAt h t e) (placeAt h t e) (o .sizes) (o .places e l))
 
-  pub size-more : (s k : ℕ) → s ≡ keptIf r (sumTo (sizeAt h pages t) e) → k ≡ keptIf r (sizeAt h pages t e) → s + k ≡ keptIf r (sumTo (sizeAt h pages t) (e + 1))
-  size-more s k p q = ap₂ _+_ p q ∙ (kept-add r (sumTo (sizeAt h pages t) e) (sizeAt h pages t e) ∙ ap (keptIf r) (sym (sum-next (sizeAt h pages t) e)))
+  pub size-more : (s k : ℕ) → s ≡ keptIf r (sumTo (sizeOfEntry h pages t) e) → k ≡ keptIf r (sizeOfEntry h pages t e) → s + k ≡ keptIf r (sumTo (sizeOfEntry h pages t) (e + 1))
+  size-more s k p q = ap₂ _+_ p q ∙ (kept-add r (sumTo (sizeOfEntry h pages t) e) (sizeOfEntry h pages t e) ∙ ap (keptIf r) (sym (sum-next (sizeOfEntry h pages t) e)))
 
-  pub prefix-passes : (n s : ℕ) → r ≡ rankedAt t → n ≡ prefixAt h t e → s ≡ keptIf r (sumTo (sizeAt h pages t) e) → eqb n s ≡ prefixIs h pages t e
+  pub prefix-passes : (n s : ℕ) → r ≡ rankedAt t → n ≡ prefixAt h t e → s ≡ keptIf r (sumTo (sizeOfEntry h pages t) e) → eqb n s ≡ prefixIs h pages t e
   unfolding prefixIs
-  prefix-passes n s m p q = ap₂ eqb p (q ∙ ap (λ (b : Bool). keptIf b (sumTo (sizeAt h pages t) e)) m)
+  prefix-passes n s m p q = ap₂ eqb p (q ∙ ap (λ (b : Bool). keptIf b (sumTo (sizeOfEntry h pages t) e)) m)
 
   -- e is the last, and past it
-  pub ranks-pass : (a : Bool) (n s : ℕ) → r ≡ rankedAt t → e ≡ entries h t → a ≡ allTo (prefixIs h pages t) e → n ≡ totalAt t → s ≡ keptIf r (sumTo (sizeAt h pages t) e) → (a && eqb n s) ≡ ranksAre h pages t
+  pub ranks-pass : (a : Bool) (n s : ℕ) → r ≡ rankedAt t → e ≡ entries h t → a ≡ allTo (prefixIs h pages t) e → n ≡ totalAt t → s ≡ keptIf r (sumTo (sizeOfEntry h pages t) e) → (a && eqb n s) ≡ ranksAre h pages t
   unfolding ranksAre totalIs
   ranks-pass a n s m f p q w =
       ap₂ _&&_ (p ∙ ap (allTo (prefixIs h pages t)) f)
-      (ap₂ eqb q (w ∙ ap₂ (λ (b : Bool) (k : ℕ). keptIf b (sumTo (sizeAt h pages t) k)) m f))
+      (ap₂ eqb q (w ∙ ap₂ (λ (b : Bool) (k : ℕ). keptIf b (sumTo (sizeOfEntry h pages t) k)) m f))
 
-pub size-none : (h : Header) (pages t : List ℕ) (r : Bool) → 0 ≡ keptIf r (sumTo (sizeAt h pages t) 0)
-size-none h pages t r = kept-zero r (sumTo (sizeAt h pages t) 0) (sum-zero (sizeAt h pages t))
+pub size-none : (h : Sizes) (pages t : List ℕ) (r : Bool) → 0 ≡ keptIf r (sumTo (sizeOfEntry h pages t) 0)
+size-none h pages t r = kept-zero r (sumTo (sizeOfEntry h pages t) 0) (sum-zero (sizeOfEntry h pages t))
 
 -- ---- blocks
 
@@ -103,7 +104,7 @@ module _ (page : List ℕ) (r : Bool) where
   block-passes blocks a b m n s p q w = ap₂ eqb (p ∙ q) w
 
 -- page p, read from place a of the pool on, its counts from d on
-pub blocks-pass : (h : Header) (pages blocks : List ℕ) (r : Bool) (a w p d n : ℕ) {b : Bool} → a ≡ p * wide h → w ≡ wide h → d ≡ p * blocksOf h → n ≡ blocksOf h → b ≡ allTo (blockIs (take (a + w - a) (drop a pages)) blocks r d) n → b ≡ pageBlocks h pages blocks r p
+pub blocks-pass : (h : Sizes) (pages blocks : List ℕ) (r : Bool) (a w p d n : ℕ) {b : Bool} → a ≡ p * wide h → w ≡ wide h → d ≡ p * blocksOf h → n ≡ blocksOf h → b ≡ allTo (blockIs (take (a + w - a) (drop a pages)) blocks r d) n → b ≡ pageBlocks h pages blocks r p
 unfolding pageBlocks
 blocks-pass h pages blocks r a w p d n e f g i q =
     q ∙ (ap₂ (λ (page : List ℕ) (k : ℕ). allTo (blockIs page blocks r k) n) (part-is pages a w (p * wide h) (wide h) e f) g

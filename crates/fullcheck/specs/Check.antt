@@ -9,17 +9,18 @@ use Rattle.sums.specs.Ids.{count}
 use Rattle.sums.specs.Rules.{allTo}
 use Rattle.dense.specs.Bits.{bitsTo}
 use Rattle.layout.specs.Mem.{Mem}
-use Rattle.layout.specs.Sizes.{InRange, top, wide, blocksOf, directAt, overAt, tableSize, head, modeAt, overCount, totalAt}
-use Rattle.layout.specs.Places.{isSparse, isDense, rowPart, pagePart, rowOwner, pageOwner}
+use Rattle.document.specs.Sizes.{InRange, top}
+use Rattle.layout.specs.Sizes.{wide, blocksOf, directAt, overAt, tableSize, head, modeAt, overCount, totalAt}
+use Rattle.layout.specs.Places.{hasRow, hasPage, rowPart, pagePart, rowOwner, pageOwner}
 use Rattle.layout.specs.Entries.{entries, chunkAt, prefixAt, placeAt}
 use Rattle.layout.specs.Follows.{Owned, sizeOf}
 use Rattle.layout.specs.Tests.{walked}
-use Rattle.layout.specs.declared.head.Header.{Header}
+use Rattle.document.specs.declared.sizes.Sizes.{Sizes}
 use Rattle.layout.specs.declared.place.Place.{Place}
 use Rattle.layout.specs.declared.place.Place.the-variants.{Absent, Sparse, Dense}
 
 -- what the walk has shown of the table
-pub record Sound (h : Header) (t : List ℕ) : Type 0 where
+pub record WalkShown (h : Sizes) (t : List ℕ) : Type 0 where
   pub sizes : InRange h
   pub in-table : tableSize h ≤ length t
   pub over-fits : overCount t ≤ h .v
@@ -40,40 +41,40 @@ overSet t a j = not (eqb (getD t (a + 3 * j + 1) 0) 0)
 unfoldable pub offsetIs : List ℕ → ℕ → ℕ → ℕ → Bool
 offsetIs row u l i = ltb (getD row i 0) u && (leb l (i + 1) || ltb (getD row i 0) (getD row (i + 1) 0))
 
-unfoldable pub listIs : Header → List ℕ → ℕ → Bool
+unfoldable pub listIs : Sizes → List ℕ → ℕ → Bool
 listIs h row l = allTo (offsetIs row (top h) l) l && zeros row l (h .m - l)
 
-abbrev pub listAt : Header → List ℕ → Place → Bool
+abbrev pub listAt : Sizes → List ℕ → Place → Bool
 listAt h rows Absent = true
 listAt h rows (Sparse r l) = listIs h (rowPart h rows r) l
 listAt h rows (Dense p) = true
 
-unfoldable pub rowIs : Header → List ℕ → List ℕ → ℕ → Bool
+unfoldable pub rowIs : Sizes → List ℕ → List ℕ → ℕ → Bool
 rowIs h rows t e = listAt h rows (placeAt h t e)
 
 -- 11, 12: a row, a page without an owner holds zeros
-unfoldable pub freeRow : Header → List ℕ → List ℕ → ℕ → Bool
-freeRow h rows t r = not (eqb (rowOwner h t r) 0) || zeros rows (r * h .m) (h .m)
+unfoldable pub freeRowIs : Sizes → List ℕ → List ℕ → ℕ → Bool
+freeRowIs h rows t r = not (eqb (rowOwner h t r) 0) || zeros rows (r * h .m) (h .m)
 
-unfoldable pub freePage : Header → List ℕ → List ℕ → ℕ → Bool
-freePage h pages t p = not (eqb (pageOwner h t p) 0) || zeros pages (p * wide h) (wide h)
+unfoldable pub freePageIs : Sizes → List ℕ → List ℕ → ℕ → Bool
+freePageIs h pages t p = not (eqb (pageOwner h t p) 0) || zeros pages (p * wide h) (wide h)
 
 -- 13: owners that are not 0; entries that are sparse, or dense
 abbrev pub isKind : Bool → Place → Bool
-isKind true q = isDense q
-isKind false q = isSparse q
+isKind true q = hasPage q
+isKind false q = hasRow q
 
-unfoldable pub kindAt : Header → List ℕ → Bool → ℕ → Bool
+unfoldable pub kindAt : Sizes → List ℕ → Bool → ℕ → Bool
 kindAt h t dense e = isKind dense (placeAt h t e)
 
-unfoldable pub countsAre : Header → List ℕ → Bool
+unfoldable pub countsAre : Sizes → List ℕ → Bool
 countsAre h t =
     eqb (count (λ (r : ℕ). not (eqb (rowOwner h t r) 0)) (h .r)) (count (kindAt h t false) (entries h t))
     && eqb (count (λ (p : ℕ). not (eqb (pageOwner h t p) 0)) (h .p)) (count (kindAt h t true) (entries h t))
 
 -- members of entry e
-unfoldable pub sizeAt : Header → List ℕ → List ℕ → ℕ → ℕ
-sizeAt h pages t e = sizeOf h pages (placeAt h t e)
+unfoldable pub sizeOfEntry : Sizes → List ℕ → List ℕ → ℕ → ℕ
+sizeOfEntry h pages t e = sizeOf h pages (placeAt h t e)
 
 -- a count that only a ranked set keeps
 abbrev pub rankedAt : List ℕ → Bool
@@ -83,36 +84,36 @@ abbrev pub keptIf : Bool → ℕ → ℕ
 keptIf ranked n = cond ranked n 0
 
 -- 14, 15: the prefix of entry e, and the total
-unfoldable pub prefixIs : Header → List ℕ → List ℕ → ℕ → Bool
-prefixIs h pages t e = eqb (prefixAt h t e) (keptIf (rankedAt t) (sumTo (sizeAt h pages t) e))
+unfoldable pub prefixIs : Sizes → List ℕ → List ℕ → ℕ → Bool
+prefixIs h pages t e = eqb (prefixAt h t e) (keptIf (rankedAt t) (sumTo (sizeOfEntry h pages t) e))
 
-unfoldable pub totalIs : Header → List ℕ → List ℕ → Bool
-totalIs h pages t = eqb (totalAt t) (keptIf (rankedAt t) (sumTo (sizeAt h pages t) (entries h t)))
+unfoldable pub totalIs : Sizes → List ℕ → List ℕ → Bool
+totalIs h pages t = eqb (totalAt t) (keptIf (rankedAt t) (sumTo (sizeOfEntry h pages t) (entries h t)))
 
 -- 16: the count of block b of a page, whose counts stand from a
 unfoldable pub blockIs : List ℕ → List ℕ → Bool → ℕ → ℕ → Bool
 blockIs page blocks ranked a b = eqb (getD blocks (a + b) 0) (keptIf ranked (bitsTo page (512 * b)))
 
-unfoldable pub pageBlocks : Header → List ℕ → List ℕ → Bool → ℕ → Bool
+unfoldable pub pageBlocks : Sizes → List ℕ → List ℕ → Bool → ℕ → Bool
 pageBlocks h pages blocks ranked p = allTo (blockIs (pagePart h pages p) blocks ranked (p * blocksOf h)) (blocksOf h)
 
 -- what is left of the rule, by slice
-unfoldable pub tableRest : Header → List ℕ → Bool
+unfoldable pub tableRest : Sizes → List ℕ → Bool
 tableRest h t =
     zeros t 9 7 && allTo (overSet t (directAt (h .d))) (overCount t)
     && zeros t (overAt h (overCount t)) (3 * (h .v - overCount t))
     && countsAre h t
 
-unfoldable pub rowsAre : Header → List ℕ → List ℕ → Bool
-rowsAre h rows t = allTo (rowIs h rows t) (entries h t) && allTo (freeRow h rows t) (h .r)
+unfoldable pub rowsAre : Sizes → List ℕ → List ℕ → Bool
+rowsAre h rows t = allTo (rowIs h rows t) (entries h t) && allTo (freeRowIs h rows t) (h .r)
 
-unfoldable pub ranksAre : Header → List ℕ → List ℕ → Bool
+unfoldable pub ranksAre : Sizes → List ℕ → List ℕ → Bool
 ranksAre h pages t = allTo (prefixIs h pages t) (entries h t) && totalIs h pages t
 
-unfoldable pub restIs : Header → Mem → Bool
+unfoldable pub restIs : Sizes → Mem → Bool
 restIs h x =
     tableRest h (x .table) && rowsAre h (x .rows) (x .table)
-    && allTo (freePage h (x .pages) (x .table)) (h .p)
+    && allTo (freePageIs h (x .pages) (x .table)) (h .p)
     && ranksAre h (x .pages) (x .table)
     && allTo (pageBlocks h (x .pages) (x .blocks) (rankedAt (x .table))) (h .p)
 

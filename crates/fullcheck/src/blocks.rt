@@ -4,11 +4,12 @@ ghost use Prim.Native.Nat.{_+_, _*_, _≤_, _<_};
 ghost use lib.ListN.{length, take, drop};
 ghost use Rattle.sums.specs.Rules.{allTo};
 ghost use Rattle.dense.specs.Bits.{bitsTo};
-ghost use Rattle.layout.specs.Sizes.{InRange, wide, blocksOf};
+ghost use Rattle.document.specs.Sizes.{InRange};
+ghost use Rattle.layout.specs.Sizes.{wide, blocksOf};
 ghost use Rattle.fullcheck.specs.Check.{rankedAt, keptIf, blockIs, pageBlocks};
 use dense::block;
 use layout::head;
-use layout::head::Header;
+use document::sizes::Sizes;
 use numbers::order;
 use numbers::place;
 use numbers::power;
@@ -42,7 +43,7 @@ pub fn page_blocks(page: &[u64], blocks: &[u32], ranked: bool, a: u64, n: u64) -
 }
 
 // The same of page p of the pool.
-pub fn blocks_in(pages: &[u64], blocks: &[u32], h: Header, ranked: bool, p: u64) -> bool
+pub fn blocks_in(pages: &[u64], blocks: &[u32], h: Sizes, ranked: bool, p: u64) -> bool
     requires { ⌜ InRange h × (p < h .p) × (h .p * wide h ≤ length (now pages)) × (h .p * blocksOf h ≤ length (now blocks)) ⌝ }
     ensures { λ b. ⌜ b ≡ pageBlocks h (now (pages .entry)) (now (blocks .entry)) ranked p ⌝ }
 {
@@ -59,7 +60,7 @@ pub fn blocks_in(pages: &[u64], blocks: &[u32], h: Header, ranked: bool, p: u64)
 }
 
 // Sentence 16, of every page.
-pub fn blocks_are(pages: &[u64], blocks: &[u32], table: &[u64], h: Header) -> bool
+pub fn blocks_are(pages: &[u64], blocks: &[u32], table: &[u64], h: Sizes) -> bool
     requires { ⌜ InRange h × (h .p * wide h ≤ length (now pages)) × (h .p * blocksOf h ≤ length (now blocks)) ⌝ }
     ensures { λ b. ⌜ b ≡ allTo (pageBlocks h (now (pages .entry)) (now (blocks .entry)) (rankedAt (now (table .entry)))) (h .p) ⌝ }
 {

@@ -13,11 +13,11 @@ ghost use Rattle.layout.specs.Tests.{Walked};
 ghost use Rattle.layout.specs.Follows.{Follows};
 ghost use Rattle.fullcheck.specs.Check.{restIs};
 use layout::head;
-use layout::head::Header;
+use document::sizes::Sizes;
 use layout::walk;
 
 // What the walk over the table leaves of the rule, sentence by sentence.
-fn rest_is(pages: &[u64], rows: &[u32], blocks: &[u32], table: &[u64], h: Header) -> bool
+fn rest_is(pages: &[u64], rows: &[u32], blocks: &[u32], table: &[u64], h: Sizes) -> bool
     requires { ⌜ Walked (memOf pages rows blocks table) h ⌝ }
     ensures { λ b. ⌜ b ≡ restIs h (memOf (pages .entry) (rows .entry) (blocks .entry) (table .entry)) ⌝ }
 {

@@ -3,18 +3,19 @@ ghost use mathlib.Core.Path.{_≡_};
 ghost use Prim.Native.Nat.{_*_, _≤_, _<_};
 ghost use lib.ListN.{length};
 ghost use Rattle.sums.specs.Rules.{allTo};
-ghost use Rattle.layout.specs.Sizes.{InRange, wide};
-ghost use Rattle.fullcheck.specs.Check.{freePage};
+ghost use Rattle.document.specs.Sizes.{InRange};
+ghost use Rattle.layout.specs.Sizes.{wide};
+ghost use Rattle.fullcheck.specs.Check.{freePageIs};
 use crate::zeros;
 use layout::entry;
 use layout::head;
-use layout::head::Header;
+use document::sizes::Sizes;
 use numbers::power;
 
 // A page without an owner holds zeros.
-pub fn free_page(pages: &[u64], table: &[u64], h: Header, p: u64) -> bool
+pub fn free_page(pages: &[u64], table: &[u64], h: Sizes, p: u64) -> bool
     requires { ⌜ InRange h × (p < h .p) × (h .p * wide h ≤ length (now pages)) ⌝ }
-    ensures { λ b. ⌜ b ≡ freePage h (now (pages .entry)) (now (table .entry)) p ⌝ }
+    ensures { λ b. ⌜ b ≡ freePageIs h (now (pages .entry)) (now (table .entry)) p ⌝ }
 {
     if entry::page_owner(table, h, p) != 0 {
         return true;
@@ -23,9 +24,9 @@ pub fn free_page(pages: &[u64], table: &[u64], h: Header, p: u64) -> bool
 }
 
 // Sentence 12, of every page.
-pub fn free_pages(pages: &[u64], table: &[u64], h: Header) -> bool
+pub fn free_pages(pages: &[u64], table: &[u64], h: Sizes) -> bool
     requires { ⌜ InRange h × (h .p * wide h ≤ length (now pages)) ⌝ }
-    ensures { λ b. ⌜ b ≡ allTo (freePage h (now (pages .entry)) (now (table .entry))) (h .p) ⌝ }
+    ensures { λ b. ⌜ b ≡ allTo (freePageIs h (now (pages .entry)) (now (table .entry))) (h .p) ⌝ }
 {
     let n = h.p;
     let mut ok = true;

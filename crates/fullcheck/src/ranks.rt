@@ -3,20 +3,21 @@ ghost use mathlib.Core.Path.{_≡_};
 ghost use Prim.Native.Nat.{_*_, _≤_, _<_};
 ghost use lib.ListN.{length};
 ghost use Rattle.dense.specs.Bits.{bitsTo};
-ghost use Rattle.layout.specs.Sizes.{InRange, top, wide};
+ghost use Rattle.document.specs.Sizes.{InRange, top};
+ghost use Rattle.layout.specs.Sizes.{wide};
 ghost use Rattle.layout.specs.Places.{pagePart};
 ghost use Rattle.layout.specs.Entries.{entries};
-ghost use Rattle.fullcheck.specs.Check.{Sound, sizeAt, keptIf, ranksAre};
+ghost use Rattle.fullcheck.specs.Check.{WalkShown, sizeOfEntry, keptIf, ranksAre};
 use dense::words;
 use layout::entry;
 use layout::head;
-use layout::head::Header;
+use document::sizes::Sizes;
 use layout::place::Place;
 use numbers::place;
 use numbers::power;
 
 // Members of page p.
-pub fn page_size(pages: &[u64], h: Header, p: u64) -> u64
+pub fn page_size(pages: &[u64], h: Sizes, p: u64) -> u64
     requires { ⌜ InRange h × (p < h .p) × (h .p * wide h ≤ length (now pages)) ⌝ }
     ensures { λ k. ⌜ k ≡ bitsTo (pagePart h (now (pages .entry)) p) (top h) ⌝ }
 {
@@ -27,9 +28,9 @@ pub fn page_size(pages: &[u64], h: Header, p: u64) -> u64
 }
 
 // Members of entry e.
-pub fn size_at(pages: &[u64], table: &[u64], h: Header, e: u64) -> u64
-    requires { ⌜ Sound h (now table) × (h .p * wide h ≤ length (now pages)) × (e < entries h (now table)) ⌝ }
-    ensures { λ k. ⌜ k ≡ sizeAt h (now (pages .entry)) (now (table .entry)) e ⌝ }
+pub fn size_at(pages: &[u64], table: &[u64], h: Sizes, e: u64) -> u64
+    requires { ⌜ WalkShown h (now table) × (h .p * wide h ≤ length (now pages)) × (e < entries h (now table)) ⌝ }
+    ensures { λ k. ⌜ k ≡ sizeOfEntry h (now (pages .entry)) (now (table .entry)) e ⌝ }
 {
     match entry::place_at(table, h, e) {
         Place::Absent => 0,
@@ -39,9 +40,9 @@ pub fn size_at(pages: &[u64], table: &[u64], h: Header, e: u64) -> u64
 }
 
 // What entry e adds to the running sum.
-pub fn size_if(pages: &[u64], table: &[u64], h: Header, ranked: bool, e: u64) -> u64
-    requires { ⌜ Sound h (now table) × (h .p * wide h ≤ length (now pages)) × (e < entries h (now table)) ⌝ }
-    ensures { λ k. ⌜ k ≡ keptIf ranked (sizeAt h (now (pages .entry)) (now (table .entry)) e) ⌝ }
+pub fn size_if(pages: &[u64], table: &[u64], h: Sizes, ranked: bool, e: u64) -> u64
+    requires { ⌜ WalkShown h (now table) × (h .p * wide h ≤ length (now pages)) × (e < entries h (now table)) ⌝ }
+    ensures { λ k. ⌜ k ≡ keptIf ranked (sizeOfEntry h (now (pages .entry)) (now (table .entry)) e) ⌝ }
 {
     if !ranked {
         return 0;
@@ -50,8 +51,8 @@ pub fn size_if(pages: &[u64], table: &[u64], h: Header, ranked: bool, e: u64) ->
 }
 
 // Sentences 14 and 15.
-pub fn ranks_are(pages: &[u64], table: &[u64], h: Header) -> bool
-    requires { ⌜ Sound h (now table) × (h .p * wide h ≤ length (now pages)) ⌝ }
+pub fn ranks_are(pages: &[u64], table: &[u64], h: Sizes) -> bool
+    requires { ⌜ WalkShown h (now table) × (h .p * wide h ≤ length (now pages)) ⌝ }
     ensures { λ b. ⌜ b ≡ ranksAre h (now (pages .entry)) (now (table .entry)) ⌝ }
 {
     let ranked = place::at(table, 6) == 1;

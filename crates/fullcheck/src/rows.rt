@@ -3,14 +3,14 @@ ghost use mathlib.Core.Path.{_≡_};
 ghost use Prim.Native.Nat.{_+_, _*_, _≤_, _<_};
 ghost use lib.ListN.{length};
 ghost use Rattle.sums.specs.Rules.{allTo};
-ghost use Rattle.layout.specs.Sizes.{InRange};
+ghost use Rattle.document.specs.Sizes.{InRange};
 ghost use Rattle.layout.specs.Places.{rowPart};
 ghost use Rattle.layout.specs.Entries.{entries};
-ghost use Rattle.fullcheck.specs.Check.{Sound, offsetIs, listIs, rowIs, freeRow, rowsAre};
+ghost use Rattle.fullcheck.specs.Check.{WalkShown, offsetIs, listIs, rowIs, freeRowIs, rowsAre};
 use crate::zeros;
 use layout::entry;
 use layout::head;
-use layout::head::Header;
+use document::sizes::Sizes;
 use layout::place::Place;
 use numbers::order;
 use numbers::place;
@@ -39,7 +39,7 @@ pub fn rising(row: &[u32], u: u64, l: u64) -> bool
 }
 
 // A row of l offsets: they rise, and the rest is 0.
-pub fn list_is(row: &[u32], h: Header, l: u64) -> bool
+pub fn list_is(row: &[u32], h: Sizes, l: u64) -> bool
     requires { ⌜ InRange h × (l ≤ h .m) × (h .m ≤ length (now row)) ⌝ }
     ensures { λ b. ⌜ b ≡ listIs h (now (row .entry)) l ⌝ }
 {
@@ -47,7 +47,7 @@ pub fn list_is(row: &[u32], h: Header, l: u64) -> bool
 }
 
 // The same of row r of the pool.
-pub fn list_in(rows: &[u32], h: Header, r: u64, l: u64) -> bool
+pub fn list_in(rows: &[u32], h: Sizes, r: u64, l: u64) -> bool
     requires { ⌜ InRange h × (r < h .r) × (l ≤ h .m) × (h .r * h .m ≤ length (now rows)) ⌝ }
     ensures { λ b. ⌜ b ≡ listIs h (rowPart h (now (rows .entry)) r) l ⌝ }
 {
@@ -58,8 +58,8 @@ pub fn list_in(rows: &[u32], h: Header, r: u64, l: u64) -> bool
 }
 
 // What the row of entry e holds.
-pub fn row_is(rows: &[u32], table: &[u64], h: Header, e: u64) -> bool
-    requires { ⌜ Sound h (now table) × (h .r * h .m ≤ length (now rows)) × (e < entries h (now table)) ⌝ }
+pub fn row_is(rows: &[u32], table: &[u64], h: Sizes, e: u64) -> bool
+    requires { ⌜ WalkShown h (now table) × (h .r * h .m ≤ length (now rows)) × (e < entries h (now table)) ⌝ }
     ensures { λ b. ⌜ b ≡ rowIs h (now (rows .entry)) (now (table .entry)) e ⌝ }
 {
     match entry::place_at(table, h, e) {
@@ -70,9 +70,9 @@ pub fn row_is(rows: &[u32], table: &[u64], h: Header, e: u64) -> bool
 }
 
 // A row without an owner holds zeros.
-pub fn free_row(rows: &[u32], table: &[u64], h: Header, r: u64) -> bool
+pub fn free_row(rows: &[u32], table: &[u64], h: Sizes, r: u64) -> bool
     requires { ⌜ InRange h × (r < h .r) × (h .r * h .m ≤ length (now rows)) ⌝ }
-    ensures { λ b. ⌜ b ≡ freeRow h (now (rows .entry)) (now (table .entry)) r ⌝ }
+    ensures { λ b. ⌜ b ≡ freeRowIs h (now (rows .entry)) (now (table .entry)) r ⌝ }
 {
     if entry::row_owner(table, h, r) != 0 {
         return true;
@@ -81,8 +81,8 @@ pub fn free_row(rows: &[u32], table: &[u64], h: Header, r: u64) -> bool
 }
 
 // Sentence 10, of every entry.
-pub fn lists_are(rows: &[u32], table: &[u64], h: Header) -> bool
-    requires { ⌜ Sound h (now table) × (h .r * h .m ≤ length (now rows)) ⌝ }
+pub fn lists_are(rows: &[u32], table: &[u64], h: Sizes) -> bool
+    requires { ⌜ WalkShown h (now table) × (h .r * h .m ≤ length (now rows)) ⌝ }
     ensures { λ b. ⌜ b ≡ allTo (rowIs h (now (rows .entry)) (now (table .entry))) (entries h (now (table .entry))) ⌝ }
 {
     let n = h.d + place::at(table, 7);
@@ -96,9 +96,9 @@ pub fn lists_are(rows: &[u32], table: &[u64], h: Header) -> bool
 }
 
 // Sentence 11, of every row.
-pub fn free_rows(rows: &[u32], table: &[u64], h: Header) -> bool
+pub fn free_rows(rows: &[u32], table: &[u64], h: Sizes) -> bool
     requires { ⌜ InRange h × (h .r * h .m ≤ length (now rows)) ⌝ }
-    ensures { λ b. ⌜ b ≡ allTo (freeRow h (now (rows .entry)) (now (table .entry))) (h .r) ⌝ }
+    ensures { λ b. ⌜ b ≡ allTo (freeRowIs h (now (rows .entry)) (now (table .entry))) (h .r) ⌝ }
 {
     let n = h.r;
     let mut ok = true;
@@ -111,8 +111,8 @@ pub fn free_rows(rows: &[u32], table: &[u64], h: Header) -> bool
 }
 
 // Sentences 10 and 11.
-pub fn rows_are(rows: &[u32], table: &[u64], h: Header) -> bool
-    requires { ⌜ Sound h (now table) × (h .r * h .m ≤ length (now rows)) ⌝ }
+pub fn rows_are(rows: &[u32], table: &[u64], h: Sizes) -> bool
+    requires { ⌜ WalkShown h (now table) × (h .r * h .m ≤ length (now rows)) ⌝ }
     ensures { λ b. ⌜ b ≡ rowsAre h (now (rows .entry)) (now (table .entry)) ⌝ }
 {
     lists_are(rows, table, h) & free_rows(rows, table, h)

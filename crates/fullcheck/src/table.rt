@@ -5,18 +5,18 @@ ghost use Rattle.sums.specs.Rules.{allTo};
 ghost use Rattle.sums.specs.Ids.{count};
 ghost use Rattle.layout.specs.Sizes.{directAt, overCount};
 ghost use Rattle.layout.specs.Entries.{entries};
-ghost use Rattle.fullcheck.specs.Check.{Sound, overSet, isKind, kindAt, countsAre, tableRest};
+ghost use Rattle.fullcheck.specs.Check.{WalkShown, overSet, isKind, kindAt, countsAre, tableRest};
 use crate::zeros;
 use layout::entry;
 use layout::head;
-use layout::head::Header;
+use document::sizes::Sizes;
 use layout::owners;
 use layout::place::Place;
 use numbers::place;
 
 // Sentence 7, of every overflow entry in use.
-pub fn words_set(table: &[u64], h: Header) -> bool
-    requires { ⌜ Sound h (now table) ⌝ }
+pub fn words_set(table: &[u64], h: Sizes) -> bool
+    requires { ⌜ WalkShown h (now table) ⌝ }
     ensures { λ b. ⌜ b ≡ allTo (overSet (now (table .entry)) (directAt (h .d))) (overCount (now (table .entry))) ⌝ }
 {
     let n = place::at(table, 7);
@@ -41,8 +41,8 @@ pub fn is_kind(q: Place, dense: bool) -> bool
 }
 
 // How many entries are dense, or sparse.
-pub fn kind_count(table: &[u64], h: Header, dense: bool) -> u64
-    requires { ⌜ Sound h (now table) ⌝ }
+pub fn kind_count(table: &[u64], h: Sizes, dense: bool) -> u64
+    requires { ⌜ WalkShown h (now table) ⌝ }
     ensures { λ k. ⌜ k ≡ count (kindAt h (now (table .entry)) dense) (entries h (now (table .entry))) ⌝ }
 {
     let n = h.d + place::at(table, 7);
@@ -56,8 +56,8 @@ pub fn kind_count(table: &[u64], h: Header, dense: bool) -> u64
 }
 
 // Sentence 13.
-pub fn counts_are(table: &[u64], h: Header) -> bool
-    requires { ⌜ Sound h (now table) ⌝ }
+pub fn counts_are(table: &[u64], h: Sizes) -> bool
+    requires { ⌜ WalkShown h (now table) ⌝ }
     ensures { λ b. ⌜ b ≡ countsAre h (now (table .entry)) ⌝ }
 {
     (owners::rows_owned(table, h) == kind_count(table, h, false))
@@ -65,8 +65,8 @@ pub fn counts_are(table: &[u64], h: Header) -> bool
 }
 
 // Sentences 4, 7, 8 and 13.
-pub fn table_rest(table: &[u64], h: Header) -> bool
-    requires { ⌜ Sound h (now table) ⌝ }
+pub fn table_rest(table: &[u64], h: Sizes) -> bool
+    requires { ⌜ WalkShown h (now table) ⌝ }
     ensures { λ b. ⌜ b ≡ tableRest h (now (table .entry)) ⌝ }
 {
     let n = place::at(table, 7);

@@ -8,8 +8,8 @@ use Rattle.numbers.specs.Ids.{splitOf, chunkOf}
 use Rattle.numbers.specs.declared.Split.{Split}
 use Rattle.numbers.specs.declared.Natural.{Natural}
 use Rattle.layout.specs.Mem.{Mem}
-use Rattle.layout.specs.declared.answer.Truth.the-variants as truth
-use Rattle.layout.specs.declared.answer.Perhaps.the-variants as perhaps
+use Rattle.document.specs.declared.answer.Truth.the-variants as truth
+use Rattle.document.specs.declared.answer.Perhaps.the-variants as perhaps
 use Rattle.calls.specs.Reading.{shiftOk, hasSplit, getBy, chunkAnswer, chunkOfBy}
 
 module _ (x : Mem) (z : ℤ) where

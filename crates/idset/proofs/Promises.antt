@@ -4,14 +4,15 @@ use lib.IntN.{ℤ, pos, negsuc}
 use Rattle.layout.specs.Mem.{Mem}
 use Rattle.layout.specs.Sizes.{head}
 use Rattle.layout.specs.Follows.{Follows}
-use Rattle.layout.specs.declared.answer.Truth.{Truth}
-use Rattle.layout.specs.declared.answer.Amount.{Amount}
-use Rattle.layout.specs.declared.answer.Perhaps.{Perhaps}
+use Rattle.document.specs.declared.answer.Truth.{Truth}
+use Rattle.document.specs.declared.answer.Amount.{Amount}
+use Rattle.document.specs.declared.answer.Perhaps.{Perhaps}
 use Rattle.calls.specs.Reading.{getBy, chunkOfBy}
 use Rattle.calls.specs.Counts.{lenBy, isEmptyBy, hasAnyBy, chunksBy}
 use Rattle.calls.proofs.Readings as readings
 use Rattle.calls.proofs.Counting as counting
-use Rattle.idset.specs.Answers.{Says, Gets, chunkIn, ChunkOf, Len, IsEmpty, HasAny, ChunkCount}
+use Rattle.document.specs.Answers.{chunkIn}
+use Rattle.idset.specs.Answers.{Says, Gets, ChunkOf, Len, IsEmpty, HasAny, ChunkCount}
 
 said : {A : Type 0} {x : Mem} {r defined wanted : A} → r ≡ defined → (Follows x → defined ≡ wanted) → Says x r defined wanted
 said e f = record { by = e; says = λ w. e ∙ f w }

@@ -17,7 +17,7 @@ use Rattle.layout.specs.Short.{entriesIn, spotOf}
 use Rattle.layout.specs.declared.find.Spot.{Spot}
 use Rattle.layout.specs.declared.find.Spot.the-variants.{Nowhere, Row, Page, Bad}
 use Rattle.calls.specs.Reading.{shiftOk, spotBy}
-use Rattle.calls.specs.Counts.{entriesOk, wordBy, isGood, sizeIn, goodAt, sizeAt}
+use Rattle.calls.specs.Counts.{entriesOk, wordBy, isGood, sizeIn, goodAt, sizeBy}
 use Rattle.idset.proofs.Spots.{InRows, InPages, spot-row, spot-page, span, length-part}
 
 -- ---- sizes that let every entry be read
@@ -82,22 +82,22 @@ module _ (x : Mem) (e : ℕ) where
     unfolding goodAt
     good-is = ap isGood f
 
-    pub size-is : sizeIn x q ≡ sizeAt x e
-    unfolding sizeAt
+    pub size-is : sizeIn x q ≡ sizeBy x e
+    unfolding sizeBy
     size-is = ap (sizeIn x) f
 
-    pub none-is : eqb (sizeIn x q) 0 ≡ eqb (sizeAt x e) 0
+    pub none-is : eqb (sizeIn x q) 0 ≡ eqb (sizeBy x e) 0
     none-is = ap (λ (k : ℕ). eqb k 0) size-is
 
   module _ (a n : ℕ) (f : Page a n ≡ spotBy x (wordBy x e)) where
     pub page-here : InPages (getD (x .table) 0 0) (length (x .pages)) a n
     page-here = spot-page (getD (x .table) 0 0) (getD (x .table) 1 0) (length (x .pages)) (length (x .rows)) (wordBy x e) a n (sym f)
 
-    pub page-size : (k : ℕ) → k ≡ bitsTo (take (a + n - a) (drop a (x .pages))) (64 * length (take (a + n - a) (drop a (x .pages)))) → k ≡ sizeAt x e
+    pub page-size : (k : ℕ) → k ≡ bitsTo (take (a + n - a) (drop a (x .pages))) (64 * length (take (a + n - a) (drop a (x .pages)))) → k ≡ sizeBy x e
     page-size k g =
         g ∙ (ap₂ (λ (i j : ℕ). bitsTo (take i (drop a (x .pages))) (64 * j)) (span a n) (length-part (x .pages) a n (page-here .inside)) ∙ size-is (Page a n) f)
 
-    pub page-none : (b : Bool) → 1 ≤ n → b ≡ anyIn (take (a + n - a) (drop a (x .pages))) 0 (64 * n - 1) → not b ≡ eqb (sizeAt x e) 0
+    pub page-none : (b : Bool) → 1 ≤ n → b ≡ anyIn (take (a + n - a) (drop a (x .pages))) 0 (64 * n - 1) → not b ≡ eqb (sizeBy x e) 0
     page-none b h g =
         ap not (g ∙ ap (λ (i : ℕ). anyIn (take i (drop a (x .pages))) 0 (64 * n - 1)) (span a n))
         ∙ (none-bit (take n (drop a (x .pages))) n h ∙ none-is (Page a n) f)
@@ -109,8 +109,8 @@ module _ (x : Mem) (e : ℕ) where
         (omega (arith, p .some-words), omega (arith, p .most-words))
 
   -- a chunk has at most 2^25 members
-  pub size-most : Run (x .table) → sizeAt x e ≤ 33554432
-  unfolding sizeAt
+  pub size-most : Run (x .table) → sizeBy x e ≤ 33554432
+  unfolding sizeBy
   size-most r = go (spotBy x (wordBy x e)) refl
     where
       go : (q : Spot) → q ≡ spotBy x (wordBy x e) → sizeIn x q ≤ 33554432

@@ -17,7 +17,7 @@ use Rattle.layout.specs.declared.find.Spot.{Spot}
 use Rattle.layout.specs.declared.find.Spot.the-variants.{Nowhere, Row, Page, Bad}
 use Rattle.layout.specs.declared.place.Place.{Place}
 use Rattle.layout.specs.declared.place.Place.the-variants.{Absent, Sparse, Dense}
-use Rattle.layout.specs.declared.answer.Truth.the-variants as truth
+use Rattle.document.specs.declared.answer.Truth.the-variants as truth
 use Rattle.sparse.specs.Search.{searchIn}
 use Rattle.sparse.specs.declared.Place as sparse
 use Rattle.dense.specs.Bits.{isSet}

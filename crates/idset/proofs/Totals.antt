@@ -15,9 +15,9 @@ use Rattle.sums.proofs.Counts.{count-next, count-le, byte-le}
 use Rattle.sums.proofs.Rules.{all-end}
 use Rattle.sparse.proofs.Rows.{count-some}
 use Rattle.layout.specs.Mem.{Mem}
-use Rattle.layout.specs.declared.answer.Truth.the-variants as truth
-use Rattle.layout.specs.declared.answer.Amount.the-variants as amount
-use Rattle.calls.specs.Counts.{entriesOk, entriesOf, wordBy, goodAt, sizeAt, usedAt, partsOk, lenBy, isEmptyBy, hasAnyBy, chunksBy}
+use Rattle.document.specs.declared.answer.Truth.the-variants as truth
+use Rattle.document.specs.declared.answer.Amount.the-variants as amount
+use Rattle.calls.specs.Counts.{entriesOk, entriesOf, wordBy, goodAt, sizeBy, usedAt, partsOk, lenBy, isEmptyBy, hasAnyBy, chunksBy}
 use Rattle.idset.proofs.Runs.{Run, size-most}
 
 module _ (x : Mem) where
@@ -29,11 +29,11 @@ module _ (x : Mem) where
 
   pub len-no : partsOk x ≡ false → amount.Refused 3 ≡ lenBy x
   unfolding lenBy
-  len-no h = ap (λ (b : Bool). cond b (amount.Of (sumTo (sizeAt x) (entriesOf x))) (amount.Refused 3)) (sym h)
+  len-no h = ap (λ (b : Bool). cond b (amount.Of (sumTo (sizeBy x) (entriesOf x))) (amount.Refused 3)) (sym h)
 
   pub empty-no : partsOk x ≡ false → truth.Refused 3 ≡ isEmptyBy x
   unfolding isEmptyBy
-  empty-no h = ap (λ (b : Bool). cond b (truth.Is (allTo (λ (e : ℕ). eqb (sizeAt x e) 0) (entriesOf x))) (truth.Refused 3)) (sym h)
+  empty-no h = ap (λ (b : Bool). cond b (truth.Is (allTo (λ (e : ℕ). eqb (sizeBy x e) 0) (entriesOf x))) (truth.Refused 3)) (sym h)
 
   pub any-no : entriesOk (x .table) ≡ false → truth.Refused 3 ≡ hasAnyBy x
   unfolding hasAnyBy
@@ -52,13 +52,13 @@ module _ (x : Mem) where
   -- ---- after entries 0 to e - 1
 
   module _ (e sum : ℕ) where
-    module _ (s : sum ≡ sumTo (sizeAt x) e) (k : ℕ) (g : k ≡ sizeAt x e) where
-      pub len-more : sum + k ≡ sumTo (sizeAt x) (e + 1)
-      len-more = ap₂ _+_ s g ∙ sym (sum-next (sizeAt x) e)
+    module _ (s : sum ≡ sumTo (sizeBy x) e) (k : ℕ) (g : k ≡ sizeBy x e) where
+      pub len-more : sum + k ≡ sumTo (sizeBy x) (e + 1)
+      len-more = ap₂ _+_ s g ∙ sym (sum-next (sizeBy x) e)
 
       pub len-fits : Run (x .table) → e < 327680 → Fits w64 (sum + k)
       len-fits r l =
-          let b = sum-bound (sizeAt x) 33554432 e (λ (j : ℕ) (m : j < e). size-most x j r) in
+          let b = sum-bound (sizeBy x) 33554432 e (λ (j : ℕ) (m : j < e). size-most x j r) in
           let t = size-most x e r in
           record { fits = omega (arith, s, g) }
 
@@ -90,20 +90,20 @@ module _ (x : Mem) where
         pub len-bad : good ≡ false → amount.Refused 3 ≡ lenBy x
         len-bad h = len-no (parts-is good s ∙ h)
 
-        pub len-is : (sum : ℕ) → sum ≡ sumTo (sizeAt x) e → good ≡ true → amount.Of sum ≡ lenBy x
+        pub len-is : (sum : ℕ) → sum ≡ sumTo (sizeBy x) e → good ≡ true → amount.Of sum ≡ lenBy x
         unfolding lenBy
         len-is sum f h =
-            ap amount.Of (f ∙ ap (sumTo (sizeAt x)) ends)
-            ∙ ap (λ (b : Bool). cond b (amount.Of (sumTo (sizeAt x) (entriesOf x))) (amount.Refused 3)) (sym (parts-is good s ∙ h))
+            ap amount.Of (f ∙ ap (sumTo (sizeBy x)) ends)
+            ∙ ap (λ (b : Bool). cond b (amount.Of (sumTo (sizeBy x) (entriesOf x))) (amount.Refused 3)) (sym (parts-is good s ∙ h))
 
         pub empty-bad : good ≡ false → truth.Refused 3 ≡ isEmptyBy x
         empty-bad h = empty-no (parts-is good s ∙ h)
 
-        pub empty-is : (none : Bool) → none ≡ allTo (λ (e : ℕ). eqb (sizeAt x e) 0) e → good ≡ true → truth.Is none ≡ isEmptyBy x
+        pub empty-is : (none : Bool) → none ≡ allTo (λ (e : ℕ). eqb (sizeBy x e) 0) e → good ≡ true → truth.Is none ≡ isEmptyBy x
         unfolding isEmptyBy
         empty-is none f h =
-            ap truth.Is (f ∙ ap (allTo (λ (e : ℕ). eqb (sizeAt x e) 0)) ends)
-            ∙ ap (λ (b : Bool). cond b (truth.Is (allTo (λ (e : ℕ). eqb (sizeAt x e) 0) (entriesOf x))) (truth.Refused 3)) (sym (parts-is good s ∙ h))
+            ap truth.Is (f ∙ ap (allTo (λ (e : ℕ). eqb (sizeBy x e) 0)) ends)
+            ∙ ap (λ (b : Bool). cond b (truth.Is (allTo (λ (e : ℕ). eqb (sizeBy x e) 0) (entriesOf x))) (truth.Refused 3)) (sym (parts-is good s ∙ h))
 
       pub chunks-is : (sum : ℕ) → sum ≡ count (usedAt x) e → amount.Of sum ≡ chunksBy x
       unfolding chunksBy

@@ -6,16 +6,17 @@ use lib.Dec.{eqb}
 use lib.IntN.{ℤ, pos, negsuc}
 use Rattle.sums.specs.Ids.{has, total}
 use Rattle.layout.specs.Mem.{Mem}
-use Rattle.layout.specs.Sizes.{top, head}
+use Rattle.document.specs.Sizes.{top}
+use Rattle.layout.specs.Sizes.{head}
 use Rattle.layout.specs.Meaning.{holds, chunks}
 use Rattle.layout.specs.Follows.{Follows}
-use Rattle.layout.specs.declared.head.Header.{Header}
-use Rattle.layout.specs.declared.answer.Truth.{Truth}
-use Rattle.layout.specs.declared.answer.Truth.the-variants as truth
-use Rattle.layout.specs.declared.answer.Amount.{Amount}
-use Rattle.layout.specs.declared.answer.Amount.the-variants as amount
-use Rattle.layout.specs.declared.answer.Perhaps.{Perhaps}
-use Rattle.layout.specs.declared.answer.Perhaps.the-variants as perhaps
+use Rattle.document.specs.declared.sizes.Sizes.{Sizes}
+use Rattle.document.specs.declared.answer.Truth.{Truth}
+use Rattle.document.specs.declared.answer.Truth.the-variants as truth
+use Rattle.document.specs.declared.answer.Amount.{Amount}
+use Rattle.document.specs.declared.answer.Amount.the-variants as amount
+use Rattle.document.specs.declared.answer.Perhaps.{Perhaps}
+use Rattle.document.specs.declared.answer.Perhaps.the-variants as perhaps
 use Rattle.calls.specs.Reading.{getBy, chunkOfBy}
 use Rattle.calls.specs.Counts.{lenBy, isEmptyBy, hasAnyBy, chunksBy}
 
@@ -27,11 +28,6 @@ pub record Says {A : Type 0} (x : Mem) (r defined wanted : A) : Type 0 where
 -- membership; a negative id is never a member
 abbrev pub Gets : Mem → ℤ → Truth → Type 0
 Gets x z r = Says x r (getBy x z) (truth.Is (has (holds x) z))
-
--- the chunk id, none for a negative id
-abbrev pub chunkIn : Header → ℤ → Perhaps
-chunkIn h (pos n) = perhaps.Of (n / top h)
-chunkIn h (negsuc n) = perhaps.Nothing
 
 abbrev pub ChunkOf : Mem → ℤ → Perhaps → Type 0
 ChunkOf x z r = Says x r (chunkOfBy x z) (chunkIn (head x) z)

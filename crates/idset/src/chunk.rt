@@ -5,7 +5,7 @@ ghost use lib.ListN.{getD};
 ghost use Rattle.layout.specs.Mem.{memOf};
 ghost use Rattle.layout.specs.Short.{wordIn};
 ghost use Rattle.calls.specs.Reading.{spotIf, hasAt, isFound};
-use layout::answer::Truth;
+use document::answer::Truth;
 use layout::find;
 use layout::find::Spot;
 use layout::find::Word;

@@ -2,8 +2,8 @@
 ghost use Rattle.layout.specs.Mem.{memOf};
 ghost use Rattle.idset.specs.Answers.{Len, IsEmpty, HasAny, ChunkCount};
 use crate::entries;
-use layout::answer::Amount;
-use layout::answer::Truth;
+use document::answer::Amount;
+use document::answer::Truth;
 use layout::entry;
 
 // The members.

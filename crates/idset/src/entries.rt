@@ -7,7 +7,7 @@ ghost use Rattle.layout.specs.Mem.{memOf};
 ghost use Rattle.layout.specs.Sizes.{headerAt};
 ghost use Rattle.layout.specs.Entries.{entries};
 ghost use Rattle.calls.specs.Reading.{spotBy};
-ghost use Rattle.calls.specs.Counts.{entriesOk, wordBy, goodAt, sizeAt};
+ghost use Rattle.calls.specs.Counts.{entriesOk, wordBy, goodAt, sizeBy};
 use dense::words;
 use layout::entry;
 use layout::find;
@@ -59,7 +59,7 @@ pub fn spot_at(pages: &[u64], rows: &[u32], blocks: &[u32], table: &[u64], e: u6
 // The members of entry e.
 pub fn part_at(pages: &[u64], rows: &[u32], blocks: &[u32], table: &[u64], e: u64) -> Part
     requires { ⌜ (entriesOk (now table) ≡ true) × (e ≤ 327680) ⌝ }
-    ensures { λ p. ⌜ (p .good ≡ goodAt (memOf (pages .entry) (rows .entry) (blocks .entry) (table .entry)) e) × (p .size ≡ sizeAt (memOf (pages .entry) (rows .entry) (blocks .entry) (table .entry)) e) ⌝ }
+    ensures { λ p. ⌜ (p .good ≡ goodAt (memOf (pages .entry) (rows .entry) (blocks .entry) (table .entry)) e) × (p .size ≡ sizeBy (memOf (pages .entry) (rows .entry) (blocks .entry) (table .entry)) e) ⌝ }
 {
     match spot_at(pages, rows, blocks, table, e) {
         Spot::Nowhere => Part {
@@ -87,7 +87,7 @@ pub fn part_at(pages: &[u64], rows: &[u32], blocks: &[u32], table: &[u64], e: u6
 // Whether entry e has no member: a page is read up to its first.
 pub fn vacancy_at(pages: &[u64], rows: &[u32], blocks: &[u32], table: &[u64], e: u64) -> Vacancy
     requires { ⌜ (entriesOk (now table) ≡ true) × (e ≤ 327680) ⌝ }
-    ensures { λ p. ⌜ (p .good ≡ goodAt (memOf (pages .entry) (rows .entry) (blocks .entry) (table .entry)) e) × (p .none ≡ eqb (sizeAt (memOf (pages .entry) (rows .entry) (blocks .entry) (table .entry)) e) 0) ⌝ }
+    ensures { λ p. ⌜ (p .good ≡ goodAt (memOf (pages .entry) (rows .entry) (blocks .entry) (table .entry)) e) × (p .none ≡ eqb (sizeBy (memOf (pages .entry) (rows .entry) (blocks .entry) (table .entry)) e) 0) ⌝ }
 {
     match spot_at(pages, rows, blocks, table, e) {
         Spot::Nowhere => Vacancy {

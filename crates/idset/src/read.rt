@@ -2,8 +2,8 @@
 ghost use Rattle.layout.specs.Mem.{memOf};
 ghost use Rattle.idset.specs.Answers.{Gets, ChunkOf};
 use crate::chunk;
-use layout::answer::Perhaps;
-use layout::answer::Truth;
+use document::answer::Perhaps;
+use document::answer::Truth;
 use numbers::Natural;
 use numbers::Split;
 use numbers::id as ids;

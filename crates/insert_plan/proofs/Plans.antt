@@ -13,7 +13,7 @@ use Rattle.layout.specs.Sizes.{head, overCount}
 use Rattle.layout.specs.Places.{rowOwner, pageOwner}
 use Rattle.layout.specs.Tests.{headIs}
 use Rattle.layout.proofs.Tests.{HeadIs, head-of}
-use Rattle.layout.specs.declared.head.Header.{Header}
+use Rattle.document.specs.declared.sizes.Sizes.{Sizes}
 use Rattle.calls.specs.Insert.{firstFree, freeRow, freePage, planBegin, planTurn, planRow}
 use Rattle.calls.specs.declared.plan.Plan.{Plan}
 use Rattle.calls.specs.declared.plan.Plan.the-variants.{Refuse, Known, Enter, Begin, Turn}
@@ -29,9 +29,9 @@ begins a o t r = cond a (cond o (Refuse 6) (cond t (Begin r) (Refuse 7))) (Refus
 abbrev turns : Bool → Bool → Bool → ℕ → ℕ → ℕ → Plan
 turns a o t r l p = cond (a && o) (cond t (Turn r l p) (Refuse 8)) (Refuse 3)
 
-module _ (x : Mem) (h : Header) (e : h ≡ head x) (b : Bool) (f : b ≡ headIs h x) where
+module _ (x : Mem) (h : Sizes) (e : h ≡ head x) (b : Bool) (f : b ≡ headIs h x) where
   head-is : headIs (head x) x ≡ b
-  head-is = ap (λ (k : Header). headIs k x) (sym e) ∙ sym f
+  head-is = ap (λ (k : Sizes). headIs k x) (sym e) ∙ sym f
 
   pub head-good : not b ≡ false → HeadIs h x
   head-good g = head-of h x .sound (sym f ∙ not-false b g)
@@ -43,7 +43,7 @@ module _ (x : Mem) (h : Header) (e : h ≡ head x) (b : Bool) (f : b ≡ headIs 
 
     module _ (g : not b ≡ false) (n : ℕ) (en : n ≡ overCount (x .table)) where
       full : (leb (head x .d) c && leb (head x .v) (overCount (x .table))) ≡ (leb (h .d) c && leb (h .v) n)
-      full = ap₂ (λ (k : Header) (i : ℕ). leb (k .d) c && leb (k .v) i) (sym e) (sym en)
+      full = ap₂ (λ (k : Sizes) (i : ℕ). leb (k .d) c && leb (k .v) i) (sym e) (sym en)
 
       begun : (o : Bool) → (leb (h .d) c && leb (h .v) n) ≡ o → begins true o (ltb (freeRow x) (head x .r)) (freeRow x) ≡ planBegin x c (freeRow x)
       begun o k = ap₂ (λ (i j : Bool). begins i j (ltb (freeRow x) (head x .r)) (freeRow x)) (sym (head-is ∙ not-false b g)) (sym (full ∙ k))
@@ -53,10 +53,10 @@ module _ (x : Mem) (h : Header) (e : h ≡ head x) (b : Bool) (f : b ≡ headIs 
 
       module _ (k : (leb (h .d) c && leb (h .v) n) ≡ false) (r : ℕ) (er : r ≡ firstFree (rowOwner h (x .table)) 0 (h .r)) where
         row-is : r ≡ freeRow x
-        row-is = er ∙ ap (λ (k : Header). firstFree (rowOwner k (x .table)) 0 (k .r)) e
+        row-is = er ∙ ap (λ (k : Sizes). firstFree (rowOwner k (x .table)) 0 (k .r)) e
 
         fits : ltb (freeRow x) (head x .r) ≡ ltb r (h .r)
-        fits = ap₂ (λ (i : ℕ) (k : Header). ltb i (k .r)) (sym row-is) (sym e)
+        fits = ap₂ (λ (i : ℕ) (k : Sizes). ltb i (k .r)) (sym row-is) (sym e)
 
         pub begin-row : r < h .r → Begin r ≡ planBegin x c (freeRow x)
         begin-row l = ap Begin row-is ∙ ap (λ (t : Bool). begins true false t (freeRow x)) (sym (fits ∙ lt-ltb r (h .r) l)) ∙ begun false k
@@ -72,17 +72,17 @@ module _ (x : Mem) (h : Header) (e : h ≡ head x) (b : Bool) (f : b ≡ headIs 
       there : (o : Bool) → ltb r (h .r) ≡ o → turns true o (ltb (freePage x) (head x .p)) r l (freePage x) ≡ planTurn x r l (freePage x)
       there o k =
           ap₂ (λ (i j : Bool). turns i j (ltb (freePage x) (head x .p)) r l (freePage x)) (sym (head-is ∙ not-false b g))
-          (sym (ap (λ (k : Header). ltb r (k .r)) (sym e) ∙ k))
+          (sym (ap (λ (k : Sizes). ltb r (k .r)) (sym e) ∙ k))
 
       pub turn-out : h .r ≤ r → Refuse 3 ≡ planTurn x r l (freePage x)
       turn-out m = there false (le-ltb r (h .r) m)
 
       module _ (m : r < h .r) (p : ℕ) (ep : p ≡ firstFree (pageOwner h (x .table)) 0 (h .p)) where
         page-is : p ≡ freePage x
-        page-is = ep ∙ ap (λ (k : Header). firstFree (pageOwner k (x .table)) 0 (k .p)) e
+        page-is = ep ∙ ap (λ (k : Sizes). firstFree (pageOwner k (x .table)) 0 (k .p)) e
 
         fit : ltb (freePage x) (head x .p) ≡ ltb p (h .p)
-        fit = ap₂ (λ (i : ℕ) (k : Header). ltb i (k .p)) (sym page-is) (sym e)
+        fit = ap₂ (λ (i : ℕ) (k : Sizes). ltb i (k .p)) (sym page-is) (sym e)
 
         pub turn-page : p < h .p → Turn r l p ≡ planTurn x r l (freePage x)
         turn-page i =

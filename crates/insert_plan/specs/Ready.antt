@@ -2,8 +2,9 @@
 use mathlib.Core.List.{List}
 use Prim.Native.Nat.{ℕ, _+_, _*_, _^_, _≤_, _<_}
 use lib.ListN.{length, getD}
-use Rattle.layout.specs.Sizes.{InRange, top, wide, headerAt, overCount}
-use Rattle.layout.specs.declared.head.Header.{Header}
+use Rattle.document.specs.Sizes.{InRange, top}
+use Rattle.layout.specs.Sizes.{wide, headerAt, overCount}
+use Rattle.document.specs.declared.sizes.Sizes.{Sizes}
 use Rattle.calls.specs.declared.plan.Plan.{Plan}
 use Rattle.calls.specs.declared.plan.Plan.the-variants.{Refuse, Known, Mark, Enter, Begin, Turn}
 
@@ -24,7 +25,7 @@ pub record EnterReady (rows t : List ℕ) (c o a n l k w : ℕ) : Type 0 where
   pub word : w < 2 ^ 28
   pub reached : Reached t c
 
-pub record BeginReady (rows t : List ℕ) (c o r : ℕ) (h : Header) : Type 0 where
+pub record BeginReady (rows t : List ℕ) (c o r : ℕ) (h : Sizes) : Type 0 where
   pub sizes : InRange h
   pub row : r < h .r
   pub in-rows : h .r * h .m ≤ length rows
@@ -32,7 +33,7 @@ pub record BeginReady (rows t : List ℕ) (c o r : ℕ) (h : Header) : Type 0 wh
   pub chunk : c < 2 ^ 62
   pub offset : o < 2 ^ 32
 
-pub record TurnReady (pages rows t : List ℕ) (c o r l p : ℕ) (h : Header) : Type 0 where
+pub record TurnReady (pages rows t : List ℕ) (c o r l p : ℕ) (h : Sizes) : Type 0 where
   pub sizes : InRange h
   pub row : r < h .r
   pub page : p < h .p

@@ -7,7 +7,7 @@ use lib.ListN.{length, getD, take, drop}
 use Rattle.dense.specs.Bits.{isSet, withBit}
 use Rattle.layout.specs.Mem.{Mem, mem}
 use Rattle.layout.specs.Short.{spotOf, wordIn}
-use Rattle.layout.specs.declared.answer.Truth.the-variants as truth
+use Rattle.document.specs.declared.answer.Truth.the-variants as truth
 use Rattle.layout.specs.declared.find.Word.{Word}
 use Rattle.layout.specs.declared.find.Word.the-variants as word
 use Rattle.layout.specs.declared.find.Spot.{Spot}

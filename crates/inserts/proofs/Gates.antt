@@ -16,12 +16,12 @@ use Rattle.layout.specs.Mem.{Mem}
 use Rattle.layout.specs.Sizes.{modeAt}
 use Rattle.layout.specs.Short.{wordIn}
 use Rattle.layout.specs.SetUp.{did}
-use Rattle.layout.specs.declared.answer.Outcome.{Outcome}
-use Rattle.layout.specs.declared.answer.Truth.{Truth}
-use Rattle.layout.specs.declared.answer.Truth.the-variants as truth
+use Rattle.document.specs.declared.answer.Outcome.{Outcome}
+use Rattle.document.specs.declared.answer.Truth.{Truth}
+use Rattle.document.specs.declared.answer.Truth.the-variants as truth
 use Rattle.calls.specs.Reading.{shiftOk, spotIf}
 use Rattle.calls.specs.Insert.{planWord, planSplit, planBy, preparedSpot, preparedSplit, preparedPlan, actBy, actSplit, answerOf, Told, told, insertBy, preparedBy}
-use Rattle.calls.specs.Promise.{done}
+use Rattle.document.specs.Insert.{done}
 use Rattle.calls.specs.declared.plan.Plan.{Plan}
 use Rattle.calls.specs.declared.plan.Plan.the-variants.{Refuse, Known}
 use Rattle.idset.proofs.Shifts.{Shift}

@@ -12,7 +12,7 @@ use lib.Seq.{drop-drop, set-getD}
 use Rattle.dense.specs.Bits.{digit, bit, isSet, withBit}
 use Rattle.dense.proofs.Bits.{isSet-one}
 use Rattle.layout.specs.Mem.{mem}
-use Rattle.layout.specs.declared.answer.Truth.the-variants as truth
+use Rattle.document.specs.declared.answer.Truth.the-variants as truth
 use Rattle.layout.specs.Writes.{putPart}
 use Rattle.calls.specs.Insert.{told}
 use Rattle.calls.specs.declared.plan.Plan.the-variants.{Known, Mark}

@@ -6,10 +6,12 @@ use mir.Val.{SFits}
 use Rattle.layout.specs.Mem.{Mem}
 use Rattle.layout.specs.Follows.{Follows}
 use Rattle.layout.specs.SetUp.{Did, did}
-use Rattle.layout.specs.declared.answer.Truth.{Truth}
-use Rattle.layout.specs.declared.answer.Outcome.{Outcome}
+use Rattle.document.specs.declared.answer.Truth.{Truth}
+use Rattle.document.specs.declared.answer.Outcome.{Outcome}
 use Rattle.calls.specs.Insert.{Told, told, insertBy, preparedBy}
-use Rattle.calls.specs.Promise.{done, stateOf, newAnswer, Inserts}
+use Rattle.layout.specs.Meaning.{stateOf}
+use Rattle.document.specs.Insert.{done, newAnswer}
+use Rattle.calls.proofs.Outcomes.{Inserts}
 use Rattle.calls.proofs.Inserting.{insert-says, prepared-says}
 use Rattle.inserts.specs.Calls.{Does, SetsIfNew, SetsPrepared, dropped, Sets}
 

@@ -8,8 +8,8 @@ use Rattle.numbers.specs.Ids.{splitOf}
 use Rattle.numbers.specs.declared.Split.the-variants as split
 use Rattle.layout.specs.Mem.{Mem}
 use Rattle.layout.specs.Short.{wordIn}
-use Rattle.layout.specs.declared.answer.Truth.{Truth}
-use Rattle.layout.specs.declared.answer.Truth.the-variants as truth
+use Rattle.document.specs.declared.answer.Truth.{Truth}
+use Rattle.document.specs.declared.answer.Truth.the-variants as truth
 use Rattle.calls.specs.Reading.{spotIf}
 use Rattle.calls.specs.Insert.{planWord, preparedSpot, told, insertBy, preparedBy}
 use Rattle.inserts.specs.Calls.{refusalOf}

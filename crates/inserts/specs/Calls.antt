@@ -9,11 +9,13 @@ use Rattle.layout.specs.Mem.{Mem}
 use Rattle.layout.specs.Sizes.{modeAt}
 use Rattle.layout.specs.Follows.{Follows}
 use Rattle.layout.specs.SetUp.{Did, did}
-use Rattle.layout.specs.declared.answer.Truth.{Truth}
-use Rattle.layout.specs.declared.answer.Outcome.{Outcome}
+use Rattle.document.specs.declared.answer.Truth.{Truth}
+use Rattle.document.specs.declared.answer.Outcome.{Outcome}
 use Rattle.calls.specs.Reading.{shiftOk}
 use Rattle.calls.specs.Insert.{Told, told, insertBy, preparedBy}
-use Rattle.calls.specs.Promise.{done, stateOf, newAnswer, preparedAnswer, Inserts}
+use Rattle.layout.specs.Meaning.{stateOf}
+use Rattle.document.specs.Insert.{done, newAnswer, preparedAnswer}
+use Rattle.calls.proofs.Outcomes.{Inserts}
 
 -- 3, then 4; 0 where the set is open
 unfoldable pub refusalOf : List ℕ → ℕ

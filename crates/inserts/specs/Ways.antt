@@ -4,7 +4,7 @@ use Prim.Native.Nat.{ℕ}
 use lib.IntN.{ℤ}
 use Rattle.layout.specs.Mem.{Mem}
 use Rattle.layout.specs.Short.{wordIn}
-use Rattle.layout.specs.declared.answer.Truth.the-variants as truth
+use Rattle.document.specs.declared.answer.Truth.the-variants as truth
 use Rattle.calls.specs.Reading.{spotIf}
 use Rattle.calls.specs.Insert.{planWord, preparedSpot, actBy, answerOf, Told, told, insertBy, preparedBy}
 use Rattle.calls.specs.declared.plan.Plan.{Plan}

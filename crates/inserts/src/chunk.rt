@@ -8,7 +8,7 @@ ghost use Rattle.calls.specs.Reading.{spotIf};
 ghost use Rattle.calls.specs.Insert.{planWord, preparedSpot, told};
 ghost use Rattle.inserts.specs.Ways.{acted};
 use crate::write;
-use layout::answer::Truth;
+use document::answer::Truth;
 use layout::find;
 use layout::find::Spot;
 use layout::find::Word;

@@ -2,14 +2,14 @@
 ghost use mathlib.Core.Path.{_≡_};
 ghost use Rattle.layout.specs.Mem.{memOf};
 ghost use Rattle.calls.specs.Insert.{told, insertBy, preparedBy};
-ghost use Rattle.calls.specs.Promise.{done};
+ghost use Rattle.document.specs.Insert.{done};
 ghost use Rattle.inserts.specs.Calls.{SetsIfNew, SetsPrepared, Sets};
 use crate::chunk;
 use crate::direct;
 use crate::direct::Direct;
 use crate::gate;
-use layout::answer::Outcome;
-use layout::answer::Truth;
+use document::answer::Outcome;
+use document::answer::Truth;
 use numbers::Split;
 use numbers::id as ids;
 use numbers::place as element;

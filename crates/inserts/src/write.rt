@@ -7,16 +7,17 @@ ghost use lib.ListN.{length, getD, take, drop};
 ghost use Rattle.sparse.specs.Edit.{insertedAt};
 ghost use Rattle.dense.specs.Bits.{isSet, withBit, withRow};
 ghost use Rattle.layout.specs.Mem.{mem};
-ghost use Rattle.layout.specs.Sizes.{InRange, top, wide, headerAt, overCount};
+ghost use Rattle.document.specs.Sizes.{InRange, top};
+ghost use Rattle.layout.specs.Sizes.{wide, headerAt, overCount};
 ghost use Rattle.layout.specs.Places.{encoded, rowPart, pagePart};
 ghost use Rattle.layout.specs.declared.place.Place.the-variants.{Sparse};
 ghost use Rattle.layout.specs.Writes.{putPart, putWord, putRowOwner, putRow};
 ghost use Rattle.calls.specs.Insert.{answerOf, actBy, told};
 ghost use Rattle.insert_plan.specs.Ready.{Ready};
 use calls::plan::Plan;
-use layout::answer::Truth;
+use document::answer::Truth;
 use layout::head;
-use layout::head::Header;
+use document::sizes::Sizes;
 use layout::place;
 use layout::write;
 use numbers::power;
@@ -52,7 +53,7 @@ pub fn enter(
 }
 
 // A free row r with one offset.
-pub fn begin_row(rows: &mut [u32], h: Header, r: u64, o: u64)
+pub fn begin_row(rows: &mut [u32], h: Sizes, r: u64, o: u64)
     requires { ⌜ InRange h × (r < h .r) × (h .r * h .m ≤ length (now rows)) × (o < 2 ^ 32) ⌝ }
     ensures { λ _. ⌜ now (rows .exit) ≡ putRow h (now (rows .entry)) r (insertedAt (rowPart h (now (rows .entry)) r) 0 0 o) ⌝ }
 {
@@ -62,7 +63,7 @@ pub fn begin_row(rows: &mut [u32], h: Header, r: u64, o: u64)
 }
 
 // Chunk c stands in row r with one member.
-pub fn begin_entry(table: &mut [u64], h: Header, c: u64, r: u64)
+pub fn begin_entry(table: &mut [u64], h: Sizes, c: u64, r: u64)
     requires { ⌜ InRange h × (r < h .r) × (overCount (now table) ≤ 65536) × (c < 2 ^ 62) ⌝ }
     ensures { λ _. ⌜ now (table .exit) ≡ putRowOwner h (putWord h (now (table .entry)) c (encoded (Sparse r 1))) r (c + 1) ⌝ }
 {
@@ -80,7 +81,7 @@ pub fn fill(words: &mut [u64], row: &[u32], l: usize, s: u64, o: u64)
 }
 
 // Page p gets the l members of row r and offset o.
-pub fn turn_page(pages: &mut [u64], rows: &[u32], h: Header, r: u64, l: usize, p: u64, o: u64)
+pub fn turn_page(pages: &mut [u64], rows: &[u32], h: Sizes, r: u64, l: usize, p: u64, o: u64)
     requires { ⌜ InRange h × (r < h .r) × (p < h .p) × (h .r * h .m ≤ length (now rows)) × (h .p * wide h ≤ length (now pages)) × (l ≤ h .m) × (o < top h) ⌝ }
     ensures { λ _. ⌜ now (pages .exit) ≡ putPart (now (pages .entry)) (p * wide h) (wide h) (withBit (withRow (pagePart h (now (pages .entry)) p) 0 (rowPart h (now (rows .entry)) r) (top h) l) o) ⌝ }
 {

@@ -11,7 +11,7 @@ use lib.Dec.{eqb}
 use borrow.Author.Tests.{eqb-true, eqb-false}
 use Rattle.layout.specs.Sizes.{overAt, overCount}
 use Rattle.layout.specs.Writes.{putPart, added}
-use Rattle.layout.specs.declared.head.Header.{Header}
+use Rattle.document.specs.declared.sizes.Sizes.{Sizes}
 use Rattle.layout.proofs.Parts.{length-put, put-in, put-off}
 
 pub same-or : (a b : ℕ) → (a ≡ b) ⊎ (a ≢ b)
@@ -22,10 +22,10 @@ same-or a b = go (eqb a b) refl
     go false e = inr (eqb-false a b e)
 
 -- the entries from k on, behind the new one
-moved : Header → List ℕ → ℕ → ℕ → ℕ → List ℕ
+moved : Sizes → List ℕ → ℕ → ℕ → ℕ → List ℕ
 moved h t c w k = c ∷ w ∷ 0 ∷ take (3 * (overCount t - k)) (drop (overAt h k) t)
 
-module _ (h : Header) (t : List ℕ) (c w k : ℕ) (le : k ≤ overCount t) (room : overAt h (overCount t + 1) ≤ length t) where
+module _ (h : Sizes) (t : List ℕ) (c w k : ℕ) (le : k ≤ overCount t) (room : overAt h (overCount t + 1) ≤ length t) where
   pushed : List ℕ
   pushed = putPart t (overAt h k) (3 * (overCount t - k) + 3) (moved h t c w k)
 

@@ -9,7 +9,7 @@ use lib.Dec.{ltb}
 use borrow.Author.Tests.{lt-ltb, le-ltb}
 use Rattle.layout.specs.Sizes.{directAt, overAt, headerAt}
 use Rattle.layout.specs.Entries.{chunkAt, wordAt, prefixPlace, prefixAt}
-use Rattle.layout.specs.declared.head.Header.{Header}
+use Rattle.document.specs.declared.sizes.Sizes.{Sizes}
 
 -- the choice between two numbers by e below d
 module _ (a b e d : ℕ) where
@@ -20,14 +20,14 @@ module _ (a b e d : ℕ) where
   chosen-past l = ap (λ (y : Bool). cond y a b) (sym (le-ltb e d l))
 
 -- where entry e's prefix stands
-module _ (h : Header) (e : ℕ) where
+module _ (h : Sizes) (e : ℕ) where
   pub place-below : e < h .d → directAt e + 1 ≡ prefixPlace h e
   place-below l = chosen-below (directAt e + 1) (overAt h (e - h .d) + 2) e (h .d) l
 
   pub place-past : h .d ≤ e → overAt h (e - h .d) + 2 ≡ prefixPlace h e
   place-past l = chosen-past (directAt e + 1) (overAt h (e - h .d) + 2) e (h .d) l
 
-module _ (h : Header) (t : List ℕ) (e : ℕ) where
+module _ (h : Sizes) (t : List ℕ) (e : ℕ) where
   module _ (l : e < h .d) where
     pub chunk-below : e ≡ chunkAt h t e
     unfolding chunkAt

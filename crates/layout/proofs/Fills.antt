@@ -7,7 +7,7 @@ use borrow.Author.Fill.{fill-none, fill-more}
 use lib.ListN.{length, drop, set, replicate, length-append, length-replicate, length-drop, length-set}
 use Rattle.layout.specs.SetUp.{zeroed, freshTable}
 use Rattle.layout.specs.Sizes.{tableSize}
-use Rattle.layout.specs.declared.head.Header.{Header}
+use Rattle.document.specs.declared.sizes.Sizes.{Sizes}
 
 -- i of n elements are 0, the others as at the start
 pub record Filled (start : List ℕ) (n : ℕ) (now : List ℕ) (i : ℕ) : Type 0 where
@@ -51,7 +51,7 @@ drop-zeros zero n ys h = let e : n ≡ n - 0 = omega arith in ap (λ (k : ℕ). 
 drop-zeros (suc j) zero ys h = absurd (omega arith)
 drop-zeros (suc j) (suc n) ys h = let e : n - j ≡ suc n - suc j = omega arith in drop-zeros j n ys (omega arith) ∙ ap (λ (k : ℕ). replicate k 0 ++ ys) e
 
-pub fresh-table : (h : Header) (t u w : List ℕ) → u ≡ zeroed (tableSize h) t → w ≡ h .s ∷ h .m ∷ h .d ∷ h .v ∷ h .r ∷ h .p ∷ drop 6 u → w ≡ freshTable h t
+pub fresh-table : (h : Sizes) (t u w : List ℕ) → u ≡ zeroed (tableSize h) t → w ≡ h .s ∷ h .m ∷ h .d ∷ h .v ∷ h .r ∷ h .p ∷ drop 6 u → w ≡ freshTable h t
 unfolding zeroed freshTable
 fresh-table h t u w eu ew =
     let e : drop 6 u ≡ replicate (tableSize h - 6) 0 ++ drop (tableSize h) t = ap (drop 6) eu ∙ drop-zeros 6 (tableSize h) (drop (tableSize h) t) (omega arith) in

@@ -11,7 +11,7 @@ use lib.Dec.{ltb, eqb}
 use borrow.Author.Tests.{lt-ltb, le-ltb, le-leb, lt-leb, ltb-true, ltb-false}
 use Rattle.layout.specs.Sizes.{directAt, overAt, headerAt, overCount}
 use Rattle.layout.specs.Short.{overPlace}
-use Rattle.layout.specs.declared.head.Header.{Header}
+use Rattle.document.specs.declared.sizes.Sizes.{Sizes}
 use Rattle.layout.specs.Writes.{added, addedIf, overPut, putWord}
 use Rattle.layout.proofs.Added.{same-or, added-length, added-over, added-low, added-high, added-chunk, added-word, added-prefix, added-up}
 
@@ -47,7 +47,7 @@ opened-more t now b i z l room s = record {
     step j m k (inr d) = off (j + 3) (omega arith) ∙ s .above j (omega arith) k
 
 -- the new entry in the gap
-module _ (h : Header) (t now : List ℕ) (c w k : ℕ) (le : k ≤ overCount t) (room : overAt h (overCount t + 1) ≤ length t) (s : Opened t now (overAt h (overCount t)) (overAt h k)) where
+module _ (h : Sizes) (t now : List ℕ) (c w k : ℕ) (le : k ≤ overCount t) (room : overAt h (overCount t + 1) ≤ length t) (s : Opened t now (overAt h (overCount t)) (overAt h k)) where
   filled : List ℕ
   filled = set (set (set (set now (overAt h k) c) (overAt h k + 1) w) (overAt h k + 2) 0) 7 (overCount t + 1)
 
@@ -142,7 +142,7 @@ module _ (h : Header) (t now : List ℕ) (c w k : ℕ) (le : k ≤ overCount t) 
   opened-end = gap-filled
 
 -- the loop's end: i has come down to the new entry's place
-pub opened-done : (h : Header) (t now : List ℕ) (c w k i : ℕ) → k ≤ overCount t → overAt h (overCount t + 1) ≤ length t → overAt h k ≤ i → i ≤ overAt h k → Opened t now (overAt h (overCount t)) i →
+pub opened-done : (h : Sizes) (t now : List ℕ) (c w k i : ℕ) → k ≤ overCount t → overAt h (overCount t + 1) ≤ length t → overAt h k ≤ i → i ≤ overAt h k → Opened t now (overAt h (overCount t)) i →
     set (set (set (set now (overAt h k) c) (overAt h k + 1) w) (overAt h k + 2) 0) 7 (overCount t + 1) ≡ added h t c w k
 opened-done h t now c w k i le room a b s =
     let e : i ≡ overAt h k = omega arith in
@@ -150,7 +150,7 @@ opened-done h t now c w k i le room a b s =
 
 -- ---- the ways through
 
-module _ (h : Header) (t now : List ℕ) (c w : ℕ) where
+module _ (h : Sizes) (t now : List ℕ) (c w : ℕ) where
   -- the place k in the overflow entries, by the test that the code makes
   module _ (k n r : ℕ) (n-is : n ≡ overCount t) (r-is : r ≡ getD t (overAt h k) 0) where
     tested : (b : Bool) → (ltb k n && eqb r c) ≡ b → overPut h t c w k ≡ cond b (set t (overAt h k + 1) w) (addedIf h t c w k)
@@ -188,8 +188,8 @@ module _ (t : List ℕ) (c d : ℕ) (e : d ≡ getD t 2 0) where
   pub direct-put : (u : List ℕ) (w : ℕ) → c < d → u ≡ set t (16 + 2 * c) w → u ≡ putWord (headerAt t) t c w
   direct-put u w l f = word-there (headerAt t) t u c w (omega (arith, e)) f
 
-  pub over-head : (h : Header) → h ≡ headerAt t → d ≤ c → (getD t 2 0 ≤ c → (getD t 2 0 ≤ 262144) × (overCount t ≤ 65536)) → (h .d ≤ 262144) × (h .d ≤ c → overCount t ≤ 65536)
+  pub over-head : (h : Sizes) → h ≡ headerAt t → d ≤ c → (getD t 2 0 ≤ c → (getD t 2 0 ≤ 262144) × (overCount t ≤ 65536)) → (h .d ≤ 262144) × (h .d ≤ c → overCount t ≤ 65536)
   over-head h f l g =
       let k = g (omega (arith, e)) in
-      let i : h .d ≡ getD t 2 0 = ap (λ (n : Header). n .d) f in
+      let i : h .d ≡ getD t 2 0 = ap (λ (n : Sizes). n .d) f in
       (omega (arith, k .0), λ (m : h .d ≤ c). k .1)

@@ -6,15 +6,16 @@ use Prim.Native.Nat.{ℕ, _*_}
 use native.Mathlib.Omega.{arith}
 use lib.ListN.{length}
 use Rattle.layout.specs.Mem.{Mem, mem}
-use Rattle.layout.specs.Sizes.{InRange, RoomIn, wide, blocksOf}
+use Rattle.document.specs.Sizes.{InRange}
+use Rattle.layout.specs.Sizes.{RoomIn, wide, blocksOf}
 use Rattle.layout.specs.Tests.{inRange, roomy, roomIn}
 use Rattle.layout.specs.SetUp.{Did, did, zeroed, freshTable, fresh, setUpBy}
-use Rattle.layout.specs.declared.head.Header.{Header}
-use Rattle.layout.specs.declared.answer.Outcome.the-variants.{Done, Refused}
+use Rattle.document.specs.declared.sizes.Sizes.{Sizes}
+use Rattle.document.specs.declared.answer.Outcome.the-variants.{Done, Refused}
 use Rattle.layout.proofs.Tests.{range-of, roomy-of}
 
 -- the four slices, each written by itself
-pub all-fresh : (h : Header) (x : Mem) (a b d : ℕ) (pages rows blocks table : List ℕ) → a ≡ h .p * wide h → b ≡ h .r * h .m → d ≡ h .p * blocksOf h → pages ≡ zeroed a (x .pages) → rows ≡ zeroed b (x .rows) → blocks ≡ zeroed d (x .blocks) → table ≡ freshTable h (x .table) → mem pages rows blocks table ≡ fresh h x
+pub all-fresh : (h : Sizes) (x : Mem) (a b d : ℕ) (pages rows blocks table : List ℕ) → a ≡ h .p * wide h → b ≡ h .r * h .m → d ≡ h .p * blocksOf h → pages ≡ zeroed a (x .pages) → rows ≡ zeroed b (x .rows) → blocks ≡ zeroed d (x .blocks) → table ≡ freshTable h (x .table) → mem pages rows blocks table ≡ fresh h x
 unfolding fresh
 all-fresh h x a b d pages rows blocks table ea eb ed ep er ek et = cc
 
@@ -23,7 +24,7 @@ all-fresh h x a b d pages rows blocks table ea eb ed ep er ek et = cc
 abbrev chosen : Bool → Bool → ℕ
 chosen a b = cond a (cond b 0 2) 1
 
-module _ (h : Header) (pages rows blocks table : ℕ) (a : Bool) (e : a ≡ inRange h) where
+module _ (h : Sizes) (pages rows blocks table : ℕ) (a : Bool) (e : a ≡ inRange h) where
   pub refuse-sizes : a ≡ false → 1 ≡ chosen (inRange h) (roomy h pages rows blocks table)
   refuse-sizes n = ap (λ (f : Bool). chosen f (roomy h pages rows blocks table)) (sym n ∙ e)
 
@@ -49,7 +50,7 @@ none-by true true k e n = (refl, refl)
 none-by true false k e n = absurd (omega arith)
 none-by false b k e n = absurd (omega arith)
 
-module _ (h : Header) (x : Mem) (k : ℕ) (e : k ≡ chosen (inRange h) (roomIn h x)) where
+module _ (h : Sizes) (x : Mem) (k : ℕ) (e : k ≡ chosen (inRange h) (roomIn h x)) where
   pub refused : (k ≡ 0 → ⊥) → did (Refused k) x ≡ setUpBy h x
   unfolding setUpBy
   refused n = refused-by (inRange h) (roomIn h x) k x (did Done (fresh h x)) e n

@@ -8,12 +8,13 @@ use lib.ListN.{length, getD}
 use Rattle.sums.specs.Rules.{allTo, Decides}
 use Rattle.sums.proofs.Rules.{all-of, and-of, unless-of, same-of, leb-of, ltb-of, eqb-of}
 use Rattle.layout.specs.Mem.{Mem}
-use Rattle.layout.specs.Sizes.{InRange, Roomy, RoomIn, wide, blocksOf, lastChunk, overAt, tableSize, head, modeAt, overCount}
+use Rattle.document.specs.Sizes.{InRange, lastChunk}
+use Rattle.layout.specs.Sizes.{Roomy, RoomIn, wide, blocksOf, overAt, tableSize, head, modeAt, overCount}
 use Rattle.layout.specs.Places.{rowOwner, pageOwner}
 use Rattle.layout.specs.Entries.{entries, chunkAt, placeAt}
 use Rattle.layout.specs.Follows.{Key, Owned}
 use Rattle.layout.specs.Tests.{inRange, roomy, roomIn, keyIs, ownedIs, placeIs, Walked, headIs, tableIs, walked}
-use Rattle.layout.specs.declared.head.Header.{Header}
+use Rattle.document.specs.declared.sizes.Sizes.{Sizes}
 use Rattle.layout.specs.declared.place.Place.{Place}
 use Rattle.layout.specs.declared.place.Place.the-variants.{Absent, Sparse, Dense}
 
@@ -28,7 +29,7 @@ same-answer false false d e = refl
 
 -- ---- sizes and lengths
 
-pub range-of : (h : Header) → Decides (inRange h) (InRange h)
+pub range-of : (h : Sizes) → Decides (inRange h) (InRange h)
 unfolding inRange
 range-of h =
     same-of
@@ -36,7 +37,7 @@ range-of h =
     (λ q. record { s-low = q .0 .0 .0 .0 .0 .0 .0; s-high = q .0 .0 .0 .0 .0 .0 .1; m-low = q .0 .0 .0 .0 .0 .1; m-high = q .0 .0 .0 .0 .1; d-high = q .0 .0 .0 .1; v-high = q .0 .0 .1; r-high = q .0 .1; p-high = q .1 })
     (λ i. (((((((i .s-low, i .s-high), i .m-low), i .m-high), i .d-high), i .v-high), i .r-high), i .p-high))
 
-pub roomy-of : (h : Header) (pages rows blocks table : ℕ) → Decides (roomy h pages rows blocks table) (Roomy h pages rows blocks table)
+pub roomy-of : (h : Sizes) (pages rows blocks table : ℕ) → Decides (roomy h pages rows blocks table) (Roomy h pages rows blocks table)
 unfolding roomy
 roomy-of h pages rows blocks table =
     same-of
@@ -44,12 +45,12 @@ roomy-of h pages rows blocks table =
     (λ q. record { in-pages = q .0 .0 .0; in-rows = q .0 .0 .1; in-blocks = q .0 .1; in-table = q .1 })
     (λ i. (((i .in-pages, i .in-rows), i .in-blocks), i .in-table))
 
-pub room-of : (h : Header) (x : Mem) → Decides (roomIn h x) (RoomIn h x)
+pub room-of : (h : Sizes) (x : Mem) → Decides (roomIn h x) (RoomIn h x)
 room-of h x = roomy-of h (length (x .pages)) (length (x .rows)) (length (x .blocks)) (length (x .table))
 
 -- ---- overflow ids, words and owners
 
-pub key-of : (h : Header) (t : List ℕ) (j : ℕ) → Decides (keyIs h t j) (Key h t j)
+pub key-of : (h : Sizes) (t : List ℕ) (j : ℕ) → Decides (keyIs h t j) (Key h t j)
 unfolding keyIs
 key-of h t j =
     let k = getD t (overAt h j) 0 in
@@ -61,7 +62,7 @@ key-of h t j =
     past : {a b : ℕ} → (a ≤ b → ⊥) → b < a
     past n = omega arith
 
-pub owned-of : (h : Header) (t : List ℕ) (c : ℕ) (q : Place) → Decides (ownedIs h t c q) (Owned h t c q)
+pub owned-of : (h : Sizes) (t : List ℕ) (c : ℕ) (q : Place) → Decides (ownedIs h t c q) (Owned h t c q)
 owned-of h t c Absent = always
 owned-of h t c (Sparse r l) =
     same-of
@@ -76,13 +77,13 @@ owned-of h t c (Dense p) =
 
 -- ---- the walk
 
-pub record HeadIs (h : Header) (x : Mem) : Type 0 where
+pub record HeadIs (h : Sizes) (x : Mem) : Type 0 where
   pub sizes : InRange h
   pub room : RoomIn h x
   pub mode : modeAt (x .table) ≤ 1
   pub over-fits : overCount (x .table) ≤ h .v
 
-pub head-of : (h : Header) (x : Mem) → Decides (headIs h x) (HeadIs h x)
+pub head-of : (h : Sizes) (x : Mem) → Decides (headIs h x) (HeadIs h x)
 unfolding headIs
 head-of h x =
     same-of
@@ -90,7 +91,7 @@ head-of h x =
     (λ q. record { sizes = q .0 .0 .0; room = q .0 .0 .1; mode = q .0 .1; over-fits = q .1 })
     (λ g. (((g .sizes, g .room), g .mode), g .over-fits))
 
-module _ (h : Header) (t : List ℕ) where
+module _ (h : Sizes) (t : List ℕ) where
   pub keys-of : Decides (allTo (keyIs h t) (overCount t)) ((j : ℕ) → j < overCount t → Key h t j)
   keys-of = all-of (keyIs h t) (overCount t) (λ j l. key-of h t j)
 

@@ -9,11 +9,12 @@ use borrow.Author.Tests.{lt-ltb, le-ltb}
 use Rattle.sums.specs.Rules.{allTo}
 use Rattle.sums.proofs.Rules.{and-of, same-of, leb-of, eqb-of}
 use Rattle.layout.specs.Mem.{Mem}
-use Rattle.layout.specs.Sizes.{InRange, head, modeAt, overCount}
+use Rattle.document.specs.Sizes.{InRange}
+use Rattle.layout.specs.Sizes.{head, modeAt, overCount}
 use Rattle.layout.specs.Places.{rowOwner, pageOwner}
 use Rattle.layout.specs.Entries.{entries, chunkAt, placeAt}
 use Rattle.layout.specs.Tests.{inRange, roomIn, keyIs, ownedIs, placeIs, headIs, tableIs, walked}
-use Rattle.layout.specs.declared.head.Header.{Header}
+use Rattle.document.specs.declared.sizes.Sizes.{Sizes}
 use Rattle.layout.specs.declared.place.Place.{Place}
 use Rattle.layout.specs.declared.place.Place.the-variants.{Sparse, Dense}
 use Rattle.layout.proofs.Tests.{HeadIs, range-of, head-of, same-answer}
@@ -30,7 +31,7 @@ owner-less o c m e =
     up : 1 ≤ o → m ≡ c → o ≡ c + 1
     up l f = omega (arith, e)
 
-module _ (h : Header) (t : List ℕ) (e c : ℕ) (q : Place) (ec : c ≡ chunkAt h t e) (eq : q ≡ placeAt h t e) where
+module _ (h : Sizes) (t : List ℕ) (e c : ℕ) (q : Place) (ec : c ≡ chunkAt h t e) (eq : q ≡ placeAt h t e) where
   pub place-way : (p : Place) → q ≡ p → ownedIs h t c p ≡ placeIs h t e
   unfolding placeIs
   place-way p f = ap₂ (ownedIs h t) ec (sym f ∙ eq)
@@ -57,7 +58,7 @@ module _ (h : Header) (t : List ℕ) (e c : ℕ) (q : Place) (ec : c ≡ chunkAt
 
 -- ---- sizes and lengths
 
-module _ (h : Header) (x : Mem) (a : Bool) (e : a ≡ inRange h) where
+module _ (h : Sizes) (x : Mem) (a : Bool) (e : a ≡ inRange h) where
   -- the test, where a says that the sizes are allowed
   head-by : Bool → Bool
   head-by b = b && roomIn h x && leb (modeAt (x .table)) 1 && leb (overCount (x .table)) (h .v)
@@ -75,12 +76,12 @@ module _ (h : Header) (x : Mem) (a : Bool) (e : a ≡ inRange h) where
 
 -- ---- the whole walk
 
-module _ (x : Mem) (h : Header) (eh : h ≡ head x) (a : Bool) (e : a ≡ headIs h x) where
+module _ (x : Mem) (h : Sizes) (eh : h ≡ head x) (a : Bool) (e : a ≡ headIs h x) where
   walk-by : Bool → Bool
   walk-by b = b && tableIs (head x) (x .table)
 
   headed : headIs (head x) x ≡ a
-  headed = ap (λ (g : Header). headIs g x) (sym eh) ∙ sym e
+  headed = ap (λ (g : Sizes). headIs g x) (sym eh) ∙ sym e
 
   pub walk-none : a ≡ false → false ≡ walked x
   unfolding walked walk-by
@@ -92,4 +93,4 @@ module _ (x : Mem) (h : Header) (eh : h ≡ head x) (a : Bool) (e : a ≡ headIs
   pub walk-rest : a ≡ true → (k p : Bool) → k ≡ allTo (keyIs h (x .table)) (overCount (x .table)) → p ≡ allTo (placeIs h (x .table)) (entries h (x .table)) → (k && p) ≡ walked x
   unfolding walked tableIs walk-by
   walk-rest y k p ek ep =
-      ap₂ _&&_ ek ep ∙ (ap (λ (g : Header). tableIs g (x .table)) eh ∙ ap walk-by (sym (headed ∙ y)))
+      ap₂ _&&_ ek ep ∙ (ap (λ (g : Sizes). tableIs g (x .table)) eh ∙ ap walk-by (sym (headed ∙ y)))

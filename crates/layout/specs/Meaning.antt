@@ -2,19 +2,21 @@
 use Prim.Native.Nat.{ℕ, _/_, _%_}
 use mathlib.Core.Bool.{Bool, true, false}
 use lib.Dec.{eqb}
-use Rattle.sums.specs.Ids.{Ids, count}
+use Rattle.sums.specs.Ids.{Ids}
 use Rattle.sparse.specs.Row.{rowOf, member}
 use Rattle.dense.specs.Bits.{isSet}
 use Rattle.layout.specs.Mem.{Mem}
-use Rattle.layout.specs.Sizes.{top, lastChunk, head, modeAt}
+use Rattle.document.specs.Sizes.{top}
+use Rattle.document.specs.State.{Kind, absent, sparse, dense, State}
+use Rattle.layout.specs.Sizes.{head, modeAt}
 use Rattle.layout.specs.Places.{rowPart, pagePart}
 use Rattle.layout.specs.Entries.{placeOf}
-use Rattle.layout.specs.declared.head.Header.{Header}
+use Rattle.document.specs.declared.sizes.Sizes.{Sizes}
 use Rattle.layout.specs.declared.place.Place.{Place}
 use Rattle.layout.specs.declared.place.Place.the-variants.{Absent, Sparse, Dense}
 
 -- the offsets of a chunk at a place
-abbrev pub offsets : Header → Mem → Place → Ids
+abbrev pub offsets : Sizes → Mem → Place → Ids
 offsets h x Absent o = false
 offsets h x (Sparse r l) o = member (rowOf (rowPart h (x .rows) r)) l o
 offsets h x (Dense p) o = isSet (pagePart h (x .pages) p) o
@@ -22,11 +24,6 @@ offsets h x (Dense p) o = isSet (pagePart h (x .pages) p) o
 -- id n is offset n % 2^s of chunk n / 2^s
 unfoldable pub holds : Mem → Ids
 holds x n = offsets (head x) x (placeOf (head x) (x .table) (n / top (head x))) (n % top (head x))
-
-pub data Kind : Type 0 where
-  absent : Kind
-  sparse : Kind
-  dense : Kind
 
 abbrev pub kindOf : Place → Kind
 kindOf Absent = absent
@@ -37,15 +34,10 @@ kindOf (Dense p) = dense
 unfoldable pub kinds : Mem → ℕ → Kind
 kinds x c = kindOf (placeOf (head x) (x .table) c)
 
-abbrev pub isPresent : Kind → Bool
-isPresent absent = false
-isPresent sparse = true
-isPresent dense = true
-
--- the chunks of the map
-unfoldable pub chunks : Mem → ℕ
-chunks x = count (λ (c : ℕ). isPresent (kinds x c)) (lastChunk (head x))
-
 -- open or ranked
 abbrev pub ranked : Mem → Bool
 ranked x = eqb (modeAt (x .table)) 1
+
+-- the set of document 01 that it stands for
+abbrev pub stateOf : Mem → State
+stateOf x = record { sizes = head x; mode = ranked x; members = holds x; map = kinds x }

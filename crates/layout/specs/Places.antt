@@ -5,7 +5,7 @@ use mathlib.Core.Bool.{Bool, true, false, cond}
 use lib.ListN.{getD, take, drop}
 use lib.Dec.{ltb, eqb}
 use Rattle.layout.specs.Sizes.{wide, blocksOf, rowOwnersAt, pageOwnersAt}
-use Rattle.layout.specs.declared.head.Header.{Header}
+use Rattle.document.specs.declared.sizes.Sizes.{Sizes}
 use Rattle.layout.specs.declared.place.Place.{Place}
 use Rattle.layout.specs.declared.place.Place.the-variants.{Absent, Sparse, Dense}
 
@@ -17,28 +17,28 @@ encoded Absent = 0
 encoded (Sparse r l) = 1 + (2048 * r + l)
 encoded (Dense p) = 268435456 + p
 
-abbrev pub isSparse : Place → Bool
-isSparse Absent = false
-isSparse (Sparse r l) = true
-isSparse (Dense p) = false
+abbrev pub hasRow : Place → Bool
+hasRow Absent = false
+hasRow (Sparse r l) = true
+hasRow (Dense p) = false
 
-abbrev pub isDense : Place → Bool
-isDense Absent = false
-isDense (Sparse r l) = false
-isDense (Dense p) = true
+abbrev pub hasPage : Place → Bool
+hasPage Absent = false
+hasPage (Sparse r l) = false
+hasPage (Dense p) = true
 
-abbrev pub rowPart : Header → List ℕ → ℕ → List ℕ
+abbrev pub rowPart : Sizes → List ℕ → ℕ → List ℕ
 rowPart h rows r = take (h .m) (drop (r * h .m) rows)
 
-abbrev pub pagePart : Header → List ℕ → ℕ → List ℕ
+abbrev pub pagePart : Sizes → List ℕ → ℕ → List ℕ
 pagePart h pages p = take (wide h) (drop (p * wide h) pages)
 
-abbrev pub blockPart : Header → List ℕ → ℕ → List ℕ
+abbrev pub blockPart : Sizes → List ℕ → ℕ → List ℕ
 blockPart h blocks p = take (blocksOf h) (drop (p * blocksOf h) blocks)
 
 -- the chunk that has row r, page p, plus 1; 0 where it is free
-abbrev pub rowOwner : Header → List ℕ → ℕ → ℕ
+abbrev pub rowOwner : Sizes → List ℕ → ℕ → ℕ
 rowOwner h t r = getD t (rowOwnersAt h + r) 0
 
-abbrev pub pageOwner : Header → List ℕ → ℕ → ℕ
+abbrev pub pageOwner : Sizes → List ℕ → ℕ → ℕ
 pageOwner h t p = getD t (pageOwnersAt h + p) 0

@@ -6,9 +6,9 @@ use lib.ListN.{drop, replicate}
 use Rattle.layout.specs.Mem.{Mem, mem}
 use Rattle.layout.specs.Sizes.{wide, blocksOf, tableSize}
 use Rattle.layout.specs.Tests.{inRange, roomIn}
-use Rattle.layout.specs.declared.head.Header.{Header}
-use Rattle.layout.specs.declared.answer.Outcome.{Outcome}
-use Rattle.layout.specs.declared.answer.Outcome.the-variants.{Done, Refused}
+use Rattle.document.specs.declared.sizes.Sizes.{Sizes}
+use Rattle.document.specs.declared.answer.Outcome.{Outcome}
+use Rattle.document.specs.declared.answer.Outcome.the-variants.{Done, Refused}
 
 -- an answer, and memory after the call
 pub record Did : Type 0 where
@@ -18,19 +18,19 @@ pub record Did : Type 0 where
 abbrev pub did : Outcome → Mem → Did
 did a x = record { answer = a; after = x }
 
-abbrev pub sizesOf : ℕ → ℕ → ℕ → ℕ → ℕ → ℕ → Header
+abbrev pub sizesOf : ℕ → ℕ → ℕ → ℕ → ℕ → ℕ → Sizes
 sizesOf s m d v r p = record { s = s; m = m; d = d; v = v; r = r; p = p }
 
 -- the first n elements 0
 unfoldable pub zeroed : ℕ → List ℕ → List ℕ
 zeroed n xs = replicate n 0 ++ drop n xs
 
-unfoldable pub freshTable : Header → List ℕ → List ℕ
+unfoldable pub freshTable : Sizes → List ℕ → List ℕ
 freshTable h t = (h .s ∷ h .m ∷ h .d ∷ h .v ∷ h .r ∷ h .p ∷ replicate (tableSize h - 6) 0) ++ drop (tableSize h) t
 
-unfoldable pub fresh : Header → Mem → Mem
+unfoldable pub fresh : Sizes → Mem → Mem
 fresh h x = mem (zeroed (h .p * wide h) (x .pages)) (zeroed (h .r * h .m) (x .rows)) (zeroed (h .p * blocksOf h) (x .blocks)) (freshTable h (x .table))
 
 -- refusal 1, then 2
-unfoldable pub setUpBy : Header → Mem → Did
+unfoldable pub setUpBy : Sizes → Mem → Did
 setUpBy h x = cond (inRange h) (cond (roomIn h x) (did Done (fresh h x)) (did (Refused 2) x)) (did (Refused 1) x)

@@ -7,39 +7,39 @@ use lib.Dec.{leb, ltb, eqb}
 use Rattle.layout.specs.Sizes.{directAt, overAt, rowOwnersAt, pageOwnersAt, overCount}
 use Rattle.layout.specs.Entries.{prefixPlace}
 use Rattle.layout.specs.Short.{overPlace}
-use Rattle.layout.specs.declared.head.Header.{Header}
+use Rattle.document.specs.declared.sizes.Sizes.{Sizes}
 
 -- xs with ys in place of its n elements from a
 unfoldable pub putPart : List ℕ → ℕ → ℕ → List ℕ → List ℕ
 putPart xs a n ys = take a xs ++ (ys ++ drop (a + n) xs)
 
 -- a new overflow entry at k: those from k on move up by one entry
-unfoldable pub added : Header → List ℕ → ℕ → ℕ → ℕ → List ℕ
+unfoldable pub added : Sizes → List ℕ → ℕ → ℕ → ℕ → List ℕ
 added h t c w k =
     set (take (overAt h k) t ++ ((c ∷ w ∷ 0 ∷ []) ++ (take (3 * (overCount t - k)) (drop (overAt h k) t) ++ drop (overAt h (overCount t + 1)) t)))
     7 (overCount t + 1)
 
 -- in a table that is long enough for one more
-abbrev pub addedIf : Header → List ℕ → ℕ → ℕ → ℕ → List ℕ
+abbrev pub addedIf : Sizes → List ℕ → ℕ → ℕ → ℕ → List ℕ
 addedIf h t c w k = cond (leb (overAt h (overCount t + 1)) (length t)) (added h t c w k) t
 
 -- chunk c's word in the overflow table, where its place is k
-abbrev pub overPut : Header → List ℕ → ℕ → ℕ → ℕ → List ℕ
+abbrev pub overPut : Sizes → List ℕ → ℕ → ℕ → ℕ → List ℕ
 overPut h t c w k = cond (ltb k (overCount t) && eqb (getD t (overAt h k) 0) c) (set t (overAt h k + 1) w) (addedIf h t c w k)
 
 -- the table with w as chunk c's word
-unfoldable pub putWord : Header → List ℕ → ℕ → ℕ → List ℕ
+unfoldable pub putWord : Sizes → List ℕ → ℕ → ℕ → List ℕ
 putWord h t c w = cond (ltb c (h .d)) (set t (directAt c) w) (overPut h t c w (overPlace t (16 + 2 * h .d) (overCount t) c))
 
 -- v as the prefix of entry e
-abbrev pub putPrefix : Header → List ℕ → ℕ → ℕ → List ℕ
+abbrev pub putPrefix : Sizes → List ℕ → ℕ → ℕ → List ℕ
 putPrefix h t e v = set t (prefixPlace h e) v
 
-abbrev pub putRowOwner : Header → List ℕ → ℕ → ℕ → List ℕ
+abbrev pub putRowOwner : Sizes → List ℕ → ℕ → ℕ → List ℕ
 putRowOwner h t r w = set t (rowOwnersAt h + r) w
 
-abbrev pub putPageOwner : Header → List ℕ → ℕ → ℕ → List ℕ
+abbrev pub putPageOwner : Sizes → List ℕ → ℕ → ℕ → List ℕ
 putPageOwner h t p w = set t (pageOwnersAt h + p) w
 
-abbrev pub putRow : Header → List ℕ → ℕ → List ℕ → List ℕ
+abbrev pub putRow : Sizes → List ℕ → ℕ → List ℕ → List ℕ
 putRow h rows r row = putPart rows (r * h .m) (h .m) row

@@ -2,16 +2,17 @@
 ghost use mathlib.Core.Path.{_≡_};
 ghost use Prim.Native.Nat.{_+_, _≤_};
 ghost use lib.ListN.{getD};
-ghost use Rattle.layout.specs.Sizes.{InRange, headerAt, overAt};
+ghost use Rattle.document.specs.Sizes.{InRange};
+ghost use Rattle.layout.specs.Sizes.{headerAt, overAt};
 ghost use Rattle.layout.specs.Places.{rowOwner, pageOwner};
 ghost use Rattle.layout.specs.Entries.{chunkAt, wordAt, prefixAt, placeAt};
-use crate::head::Header;
+use document::sizes::Sizes;
 use crate::place;
 use crate::place::Place;
 use numbers::place as element;
 
 // The chunk id of entry e: e itself for a direct one.
-pub fn chunk_at(table: &[u64], h: Header, e: u64) -> u64
+pub fn chunk_at(table: &[u64], h: Sizes, e: u64) -> u64
     requires { ⌜ InRange h × (e ≤ 327680) ⌝ }
     ensures { λ c. ⌜ c ≡ chunkAt h (now (table .entry)) e ⌝ }
 {
@@ -22,7 +23,7 @@ pub fn chunk_at(table: &[u64], h: Header, e: u64) -> u64
 }
 
 // The word of entry e.
-pub fn word_at(table: &[u64], h: Header, e: u64) -> u64
+pub fn word_at(table: &[u64], h: Sizes, e: u64) -> u64
     requires { ⌜ InRange h × (e ≤ 327680) ⌝ }
     ensures { λ w. ⌜ w ≡ wordAt h (now (table .entry)) e ⌝ }
 {
@@ -33,7 +34,7 @@ pub fn word_at(table: &[u64], h: Header, e: u64) -> u64
 }
 
 // The word of overflow entry j.
-pub fn over_word(table: &[u64], h: Header, j: u64) -> u64
+pub fn over_word(table: &[u64], h: Sizes, j: u64) -> u64
     requires { ⌜ InRange h × (j ≤ 65536) ⌝ }
     ensures { λ w. ⌜ w ≡ getD (now (table .entry)) (overAt h j + 1) 0 ⌝ }
 {
@@ -53,7 +54,7 @@ pub fn word_by(table: &[u64], e: u64) -> u64
 }
 
 // The prefix of entry e.
-pub fn prefix_at(table: &[u64], h: Header, e: u64) -> u64
+pub fn prefix_at(table: &[u64], h: Sizes, e: u64) -> u64
     requires { ⌜ InRange h × (e ≤ 327680) ⌝ }
     ensures { λ n. ⌜ n ≡ prefixAt h (now (table .entry)) e ⌝ }
 {
@@ -64,7 +65,7 @@ pub fn prefix_at(table: &[u64], h: Header, e: u64) -> u64
 }
 
 // What the word of entry e says.
-pub fn place_at(table: &[u64], h: Header, e: u64) -> Place
+pub fn place_at(table: &[u64], h: Sizes, e: u64) -> Place
     requires { ⌜ InRange h × (e ≤ 327680) ⌝ }
     ensures { λ q. ⌜ q ≡ placeAt h (now (table .entry)) e ⌝ }
 {
@@ -72,7 +73,7 @@ pub fn place_at(table: &[u64], h: Header, e: u64) -> Place
 }
 
 // The chunk that has row r, plus 1; 0 where it is free.
-pub fn row_owner(table: &[u64], h: Header, r: u64) -> u64
+pub fn row_owner(table: &[u64], h: Sizes, r: u64) -> u64
     requires { ⌜ InRange h × (r ≤ 65536) ⌝ }
     ensures { λ o. ⌜ o ≡ rowOwner h (now (table .entry)) r ⌝ }
 {
@@ -80,7 +81,7 @@ pub fn row_owner(table: &[u64], h: Header, r: u64) -> u64
 }
 
 // The chunk that has page p, plus 1; 0 where it is free.
-pub fn page_owner(table: &[u64], h: Header, p: u64) -> u64
+pub fn page_owner(table: &[u64], h: Sizes, p: u64) -> u64
     requires { ⌜ InRange h × (p ≤ 65536) ⌝ }
     ensures { λ o. ⌜ o ≡ pageOwner h (now (table .entry)) p ⌝ }
 {

@@ -3,7 +3,7 @@ ghost use mathlib.Core.Path.{_≡_};
 ghost use Prim.Native.Nat.{_+_, _*_, _^_, _≤_, _<_};
 ghost use Rattle.layout.specs.Sizes.{overCount};
 ghost use Rattle.layout.specs.Short.{overPlace, overWord, entriesIn, overflowWord, wordIn, spotOf};
-use crate::head::Header;
+use document::sizes::Sizes;
 use crate::place;
 use crate::place::Place;
 use numbers::place as element;
@@ -42,7 +42,7 @@ pub fn over_place(table: &[u64], a: u64, n: u64, c: u64) -> u64
 }
 
 // How many overflow ids are below c.
-pub fn over_below(table: &[u64], h: Header, c: u64) -> u64
+pub fn over_below(table: &[u64], h: Sizes, c: u64) -> u64
     requires { ⌜ (h .d ≤ 262144) × (overCount (now table) ≤ 65536) ⌝ }
     ensures { λ k. ⌜ (k ≡ overPlace (now (table .entry)) (16 + 2 * h .d) (overCount (now (table .entry))) c) × (k ≤ overCount (now (table .entry))) ⌝ }
 {

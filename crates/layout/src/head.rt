@@ -1,25 +1,18 @@
 // The header's six sizes, the test of them, and where the parts of the pools start.
 ghost use mathlib.Core.Path.{_≡_};
 ghost use Prim.Native.Nat.{_*_, _-_, _≤_};
-ghost use Rattle.layout.specs.Sizes.{InRange, headerAt, wide, blocksOf, overAt, rowOwnersAt, pageOwnersAt};
+ghost use Rattle.document.specs.Sizes.{InRange};
+ghost use Rattle.layout.specs.Sizes.{headerAt, wide, blocksOf, overAt, rowOwnersAt, pageOwnersAt};
 ghost use Rattle.layout.specs.Tests.{inRange, roomy};
+use document::sizes::Sizes;
 use numbers::place;
 use numbers::power;
 
-pub struct Header {
-    pub s: u64,
-    pub m: u64,
-    pub d: u64,
-    pub v: u64,
-    pub r: u64,
-    pub p: u64,
-}
-
 // The sizes that a table's header says.
-pub fn read(table: &[u64]) -> Header
+pub fn read(table: &[u64]) -> Sizes
     ensures { λ h. ⌜ h ≡ headerAt (now (table .entry)) ⌝ }
 {
-    Header {
+    Sizes {
         s: place::at(table, 0),
         m: place::at(table, 1),
         d: place::at(table, 2),
@@ -30,7 +23,7 @@ pub fn read(table: &[u64]) -> Header
 }
 
 // Document 01's table of sizes.
-pub fn in_range(h: Header) -> bool
+pub fn in_range(h: Sizes) -> bool
     ensures { λ b. ⌜ b ≡ inRange h ⌝ }
 {
     (9 <= h.s)
@@ -44,7 +37,7 @@ pub fn in_range(h: Header) -> bool
 }
 
 // Where overflow entry j starts.
-pub fn over_at(h: Header, j: u64) -> u64
+pub fn over_at(h: Sizes, j: u64) -> u64
     requires { ⌜ InRange h × (j ≤ 65536) ⌝ }
     ensures { λ a. ⌜ a ≡ overAt h j ⌝ }
 {
@@ -52,7 +45,7 @@ pub fn over_at(h: Header, j: u64) -> u64
 }
 
 // How many words the overflow entries from j on have.
-pub fn over_words(h: Header, j: u64) -> u64
+pub fn over_words(h: Sizes, j: u64) -> u64
     requires { ⌜ InRange h × (j ≤ h .v) ⌝ }
     ensures { λ n. ⌜ n ≡ 3 * (h .v - j) ⌝ }
 {
@@ -60,7 +53,7 @@ pub fn over_words(h: Header, j: u64) -> u64
 }
 
 // Where the owners of rows start.
-pub fn row_owners_at(h: Header) -> u64
+pub fn row_owners_at(h: Sizes) -> u64
     requires { ⌜ InRange h ⌝ }
     ensures { λ a. ⌜ a ≡ rowOwnersAt h ⌝ }
 {
@@ -68,7 +61,7 @@ pub fn row_owners_at(h: Header) -> u64
 }
 
 // Where the owners of pages start.
-pub fn page_owners_at(h: Header) -> u64
+pub fn page_owners_at(h: Sizes) -> u64
     requires { ⌜ InRange h ⌝ }
     ensures { λ a. ⌜ a ≡ pageOwnersAt h ⌝ }
 {
@@ -76,7 +69,7 @@ pub fn page_owners_at(h: Header) -> u64
 }
 
 // Where row r starts.
-pub fn row_at(h: Header, r: u64) -> u64
+pub fn row_at(h: Sizes, r: u64) -> u64
     requires { ⌜ InRange h × (r ≤ 65536) ⌝ }
     ensures { λ a. ⌜ a ≡ r * h .m ⌝ }
 {
@@ -84,7 +77,7 @@ pub fn row_at(h: Header, r: u64) -> u64
 }
 
 // Where page p starts.
-pub fn page_at(h: Header, p: u64) -> u64
+pub fn page_at(h: Sizes, p: u64) -> u64
     requires { ⌜ InRange h × (p ≤ 65536) ⌝ }
     ensures { λ a. ⌜ a ≡ p * wide h ⌝ }
 {
@@ -92,7 +85,7 @@ pub fn page_at(h: Header, p: u64) -> u64
 }
 
 // Where the block counts of page p start.
-pub fn block_at(h: Header, p: u64) -> u64
+pub fn block_at(h: Sizes, p: u64) -> u64
     requires { ⌜ InRange h × (p ≤ 65536) ⌝ }
     ensures { λ a. ⌜ a ≡ p * blocksOf h ⌝ }
 {
@@ -100,7 +93,7 @@ pub fn block_at(h: Header, p: u64) -> u64
 }
 
 // Slices of these lengths are as long as the sizes ask.
-pub fn has_room(h: Header, pages: u64, rows: u64, blocks: u64, table: u64) -> bool
+pub fn has_room(h: Sizes, pages: u64, rows: u64, blocks: u64, table: u64) -> bool
     requires { ⌜ InRange h ⌝ }
     ensures { λ b. ⌜ b ≡ roomy h pages rows blocks table ⌝ }
 {

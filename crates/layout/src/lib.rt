@@ -1,5 +1,4 @@
 // What the four lent slices mean: header, directory, slots, set-up. Only here are places of the table computed.
-pub mod answer;
 pub mod entry;
 pub mod find;
 pub mod head;

@@ -5,11 +5,11 @@ ghost use Prim.Native.Nat.{ℕ, _+_, _-_, _≤_};
 ghost use lib.ListN.{getD};
 ghost use lib.Dec.{eqb};
 ghost use Rattle.sums.specs.Ids.{count};
-ghost use Rattle.layout.specs.Sizes.{InRange};
+ghost use Rattle.document.specs.Sizes.{InRange};
 ghost use Rattle.layout.specs.Places.{rowOwner, pageOwner};
 ghost use Rattle.layout.specs.Free.{firstFree};
 use crate::head;
-use crate::head::Header;
+use document::sizes::Sizes;
 use numbers::place as element;
 
 // The first of places i to n - 1 whose owner is 0, else the one past them; the owners start at a.
@@ -28,7 +28,7 @@ fn first_free(table: &[u64], a: u64, i: u64, n: u64) -> u64
 }
 
 // The lowest free row, R where there is none.
-pub fn free_row(table: &[u64], h: Header) -> u64
+pub fn free_row(table: &[u64], h: Sizes) -> u64
     requires { ⌜ InRange h ⌝ }
     ensures { λ r. ⌜ r ≡ firstFree (rowOwner h (now (table .entry))) 0 (h .r) ⌝ }
 {
@@ -36,7 +36,7 @@ pub fn free_row(table: &[u64], h: Header) -> u64
 }
 
 // The lowest free page, P where there is none.
-pub fn free_page(table: &[u64], h: Header) -> u64
+pub fn free_page(table: &[u64], h: Sizes) -> u64
     requires { ⌜ InRange h ⌝ }
     ensures { λ p. ⌜ p ≡ firstFree (pageOwner h (now (table .entry))) 0 (h .p) ⌝ }
 {
@@ -44,7 +44,7 @@ pub fn free_page(table: &[u64], h: Header) -> u64
 }
 
 // The lowest free page from `next` on.
-pub fn next_page(table: &[u64], h: Header, next: u64) -> u64
+pub fn next_page(table: &[u64], h: Sizes, next: u64) -> u64
     requires { ⌜ InRange h × (next ≤ 65536) ⌝ }
     ensures { λ p. ⌜ p ≡ firstFree (pageOwner h (now (table .entry))) next (h .p - next) ⌝ }
 {
@@ -66,7 +66,7 @@ fn owned_count(table: &[u64], a: u64, n: u64) -> u64
 }
 
 // How many rows have an owner.
-pub fn rows_owned(table: &[u64], h: Header) -> u64
+pub fn rows_owned(table: &[u64], h: Sizes) -> u64
     requires { ⌜ InRange h ⌝ }
     ensures { λ k. ⌜ k ≡ count (λ (r : ℕ). not (eqb (rowOwner h (now (table .entry)) r) 0)) (h .r) ⌝ }
 {
@@ -74,7 +74,7 @@ pub fn rows_owned(table: &[u64], h: Header) -> u64
 }
 
 // How many pages have an owner.
-pub fn pages_owned(table: &[u64], h: Header) -> u64
+pub fn pages_owned(table: &[u64], h: Sizes) -> u64
     requires { ⌜ InRange h ⌝ }
     ensures { λ k. ⌜ k ≡ count (λ (p : ℕ). not (eqb (pageOwner h (now (table .entry)) p) 0)) (h .p) ⌝ }
 {

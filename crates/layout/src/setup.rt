@@ -5,12 +5,13 @@ ghost use mathlib.Core.Bool.{cond};
 ghost use Prim.Native.Nat.{_≤_};
 ghost use lib.ListN.{length, drop};
 ghost use Rattle.layout.specs.Mem.{memOf};
-ghost use Rattle.layout.specs.Sizes.{InRange, Roomy, tableSize};
+ghost use Rattle.document.specs.Sizes.{InRange};
+ghost use Rattle.layout.specs.Sizes.{Roomy, tableSize};
 ghost use Rattle.layout.specs.Tests.{inRange, roomy};
 ghost use Rattle.layout.specs.SetUp.{did, sizesOf, zeroed, freshTable, fresh, setUpBy};
-use crate::answer::Outcome;
+use document::answer::Outcome;
 use crate::head;
-use crate::head::Header;
+use document::sizes::Sizes;
 
 // The first n words become 0.
 pub fn zero64(t: &mut [u64], n: usize)
@@ -37,7 +38,7 @@ pub fn zero32(t: &mut [u32], n: usize)
 }
 
 // The sizes stand at the head of the table.
-pub fn put_sizes(table: &mut [u64], h: Header)
+pub fn put_sizes(table: &mut [u64], h: Sizes)
     requires { ⌜ 6 ≤ length (now table) ⌝ }
     ensures { λ _. ⌜ now (table .exit) ≡ h .s ∷ h .m ∷ h .d ∷ h .v ∷ h .r ∷ h .p ∷ drop 6 (now (table .entry)) ⌝ }
 {
@@ -50,7 +51,7 @@ pub fn put_sizes(table: &mut [u64], h: Header)
 }
 
 // The table of an empty open set.
-pub fn fresh_table(table: &mut [u64], h: Header)
+pub fn fresh_table(table: &mut [u64], h: Sizes)
     requires { ⌜ InRange h × (tableSize h ≤ length (now table)) ⌝ }
     ensures { λ _. ⌜ now (table .exit) ≡ freshTable h (now (table .entry)) ⌝ }
 {
@@ -60,7 +61,7 @@ pub fn fresh_table(table: &mut [u64], h: Header)
 
 // All four slices of an empty open set.
 pub fn make_fresh(
-    h: Header,
+    h: Sizes,
     pages: &mut [u64],
     rows: &mut [u32],
     blocks: &mut [u32],
@@ -76,7 +77,7 @@ pub fn make_fresh(
 }
 
 // The refusal that these sizes and lengths earn, 0 for none.
-pub fn refusal(h: Header, pages: u64, rows: u64, blocks: u64, table: u64) -> u64
+pub fn refusal(h: Sizes, pages: u64, rows: u64, blocks: u64, table: u64) -> u64
     ensures { λ k. ⌜ k ≡ cond (inRange h) (cond (roomy h pages rows blocks table) 0 2) 1 ⌝ }
 {
     if !head::in_range(h) {
@@ -103,7 +104,7 @@ pub fn set_up(
 ) -> Outcome
     ensures { λ o. ⌜ did o (memOf (pages .exit) (rows .exit) (blocks .exit) (table .exit)) ≡ setUpBy (sizesOf s m d v r p) (memOf (pages .entry) (rows .entry) (blocks .entry) (table .entry)) ⌝ }
 {
-    let h = Header { s, m, d, v, r, p };
+    let h = Sizes { s, m, d, v, r, p };
     let k = refusal(
         h,
         pages.len() as u64,

@@ -4,12 +4,13 @@ ghost use Prim.Native.Nat.{_+_, _≤_};
 ghost use lib.Dec.{eqb};
 ghost use Rattle.sums.specs.Rules.{allTo};
 ghost use Rattle.layout.specs.Mem.{memOf};
-ghost use Rattle.layout.specs.Sizes.{InRange, overCount};
+ghost use Rattle.document.specs.Sizes.{InRange};
+ghost use Rattle.layout.specs.Sizes.{overCount};
 ghost use Rattle.layout.specs.Entries.{entries};
 ghost use Rattle.layout.specs.Tests.{keyIs, placeIs, headIs, walked};
 use crate::entry;
 use crate::head;
-use crate::head::Header;
+use document::sizes::Sizes;
 use crate::place::Place;
 use numbers::order;
 use numbers::place as element;
@@ -23,7 +24,7 @@ pub fn owner_is(o: u64, c: u64) -> bool
 }
 
 // Overflow entry j's id: at least D, below 2^(63-s), below the next.
-pub fn key_is(table: &[u64], h: Header, j: u64) -> bool
+pub fn key_is(table: &[u64], h: Sizes, j: u64) -> bool
     requires { ⌜ InRange h × (j ≤ 65536) ⌝ }
     ensures { λ b. ⌜ b ≡ keyIs h (now (table .entry)) j ⌝ }
 {
@@ -32,7 +33,7 @@ pub fn key_is(table: &[u64], h: Header, j: u64) -> bool
     (h.d <= k) & (k < power::pow2(63 - h.s)) & ((element::at(table, 7) <= j + 1) | (k < next))
 }
 
-pub fn keys_are(table: &[u64], h: Header) -> bool
+pub fn keys_are(table: &[u64], h: Sizes) -> bool
     requires { ⌜ InRange h × (overCount (now table) ≤ 65536) ⌝ }
     ensures { λ b. ⌜ b ≡ allTo (keyIs h (now (table .entry))) (overCount (now (table .entry))) ⌝ }
 {
@@ -47,7 +48,7 @@ pub fn keys_are(table: &[u64], h: Header) -> bool
 }
 
 // Entry e's word names a row or page inside its pool whose owner is the entry's chunk.
-pub fn place_is(table: &[u64], h: Header, e: u64) -> bool
+pub fn place_is(table: &[u64], h: Sizes, e: u64) -> bool
     requires { ⌜ InRange h × (e ≤ 327680) ⌝ }
     ensures { λ b. ⌜ b ≡ placeIs h (now (table .entry)) e ⌝ }
 {
@@ -69,7 +70,7 @@ pub fn place_is(table: &[u64], h: Header, e: u64) -> bool
     }
 }
 
-pub fn places_are(table: &[u64], h: Header) -> bool
+pub fn places_are(table: &[u64], h: Sizes) -> bool
     requires { ⌜ InRange h × (overCount (now table) ≤ 65536) ⌝ }
     ensures { λ b. ⌜ b ≡ allTo (placeIs h (now (table .entry))) (entries h (now (table .entry))) ⌝ }
 {
@@ -84,7 +85,7 @@ pub fn places_are(table: &[u64], h: Header) -> bool
 }
 
 // The sizes are allowed, the slices long enough, the mode is known and the overflow entries in use fit.
-pub fn head_is(h: Header, pages: &[u64], rows: &[u32], blocks: &[u32], table: &[u64]) -> bool
+pub fn head_is(h: Sizes, pages: &[u64], rows: &[u32], blocks: &[u32], table: &[u64]) -> bool
     ensures { λ b. ⌜ b ≡ headIs h (memOf (pages .entry) (rows .entry) (blocks .entry) (table .entry)) ⌝ }
 {
     if !head::in_range(h) {

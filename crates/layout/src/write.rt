@@ -2,15 +2,16 @@
 ghost use mathlib.Core.Path.{_≡_};
 ghost use Prim.Native.Nat.{_+_, _^_, _≤_, _<_};
 ghost use lib.ListN.{length, getD};
-ghost use Rattle.layout.specs.Sizes.{InRange, headerAt, overAt, overCount};
+ghost use Rattle.document.specs.Sizes.{InRange};
+ghost use Rattle.layout.specs.Sizes.{headerAt, overAt, overCount};
 ghost use Rattle.layout.specs.Writes.{added, overPut, putWord, putPrefix, putRowOwner, putPageOwner};
 use crate::find;
 use crate::head;
-use crate::head::Header;
+use document::sizes::Sizes;
 use numbers::place as element;
 
 // A new overflow entry at its place: those from k on move up by one entry, from the top.
-pub fn add_entry(table: &mut [u64], h: Header, c: u64, w: u64, k: u64)
+pub fn add_entry(table: &mut [u64], h: Sizes, c: u64, w: u64, k: u64)
     requires { ⌜ (h .d ≤ 262144) × (overCount (now table) ≤ 65536) × (k ≤ overCount (now table)) × (overAt h (overCount (now table) + 1) ≤ length (now table)) ⌝ }
     ensures { λ _. ⌜ now (table .exit) ≡ added h (now (table .entry)) c w k ⌝ }
 {
@@ -28,7 +29,7 @@ pub fn add_entry(table: &mut [u64], h: Header, c: u64, w: u64, k: u64)
 }
 
 // The word of a chunk past the direct ones, where its place is k: in the entry that is there, or in a new one.
-pub fn put_over(table: &mut [u64], h: Header, c: u64, w: u64, k: u64)
+pub fn put_over(table: &mut [u64], h: Sizes, c: u64, w: u64, k: u64)
     requires { ⌜ (h .d ≤ 262144) × (overCount (now table) ≤ 65536) × (k ≤ overCount (now table)) ⌝ }
     ensures { λ _. ⌜ now (table .exit) ≡ overPut h (now (table .entry)) c w k ⌝ }
 {
@@ -45,7 +46,7 @@ pub fn put_over(table: &mut [u64], h: Header, c: u64, w: u64, k: u64)
 }
 
 // Chunk c's word: in its direct entry, in its overflow entry, or in a new one.
-pub fn put_word(table: &mut [u64], h: Header, c: u64, w: u64)
+pub fn put_word(table: &mut [u64], h: Sizes, c: u64, w: u64)
     requires { ⌜ (h .d ≤ 262144) × (h .d ≤ c → overCount (now table) ≤ 65536) ⌝ }
     ensures { λ _. ⌜ now (table .exit) ≡ putWord h (now (table .entry)) c w ⌝ }
 {
@@ -71,7 +72,7 @@ pub fn set_word(table: &mut [u64], c: u64, w: u64)
 }
 
 // The prefix of entry e.
-pub fn put_prefix(table: &mut [u64], h: Header, e: u64, v: u64)
+pub fn put_prefix(table: &mut [u64], h: Sizes, e: u64, v: u64)
     requires { ⌜ InRange h × (e ≤ 327680) ⌝ }
     ensures { λ _. ⌜ now (table .exit) ≡ putPrefix h (now (table .entry)) e v ⌝ }
 {
@@ -83,7 +84,7 @@ pub fn put_prefix(table: &mut [u64], h: Header, e: u64, v: u64)
 }
 
 // The owner of row r: a chunk id plus 1, or 0 for a free one.
-pub fn put_row_owner(table: &mut [u64], h: Header, r: u64, w: u64)
+pub fn put_row_owner(table: &mut [u64], h: Sizes, r: u64, w: u64)
     requires { ⌜ InRange h × (r ≤ 65536) ⌝ }
     ensures { λ _. ⌜ now (table .exit) ≡ putRowOwner h (now (table .entry)) r w ⌝ }
 {
@@ -91,7 +92,7 @@ pub fn put_row_owner(table: &mut [u64], h: Header, r: u64, w: u64)
 }
 
 // The owner of page p.
-pub fn put_page_owner(table: &mut [u64], h: Header, p: u64, w: u64)
+pub fn put_page_owner(table: &mut [u64], h: Sizes, p: u64, w: u64)
     requires { ⌜ InRange h × (p ≤ 65536) ⌝ }
     ensures { λ _. ⌜ now (table .exit) ≡ putPageOwner h (now (table .entry)) p w ⌝ }
 {

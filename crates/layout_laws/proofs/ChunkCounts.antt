@@ -11,14 +11,16 @@ use Rattle.sums.specs.Ids.{Ids, count}
 use Rattle.sums.proofs.Sums.{sum-ext, sum-add}
 use Rattle.sums.proofs.Counts.{count-zero, count-suc, count-ext, count-none, count-split, count-full}
 use Rattle.layout.specs.Mem.{Mem}
-use Rattle.layout.specs.Sizes.{lastChunk, head, overCount}
-use Rattle.layout.specs.Places.{decoded, isSparse, isDense, rowOwner, pageOwner}
+use Rattle.document.specs.Sizes.{lastChunk}
+use Rattle.layout.specs.Sizes.{head, overCount}
+use Rattle.layout.specs.Places.{decoded, hasRow, hasPage, rowOwner, pageOwner}
 use Rattle.layout.specs.Entries.{entries, chunkAt, wordAt, placeAt}
-use Rattle.layout.specs.Meaning.{Kind, absent, sparse, dense, kindOf, kinds, isPresent, chunks}
+use Rattle.document.specs.State.{Kind, absent, sparse, dense, isPresent, isSparse, isDense}
+use Rattle.layout.specs.Meaning.{kindOf, kinds, stateOf}
+use Rattle.document.specs.Answers.{chunksIn}
 use Rattle.layout.specs.Follows.{Follows}
 use Rattle.layout.specs.declared.place.Place.{Place}
 use Rattle.layout.specs.declared.place.Place.the-variants.{Absent, Sparse, Dense}
-use Rattle.layout_laws.specs.Chunks.{inRow, inPage}
 use Rattle.layout_laws.proofs.Entries.{Ordered, laid-ordered, chunk-direct, chunk-past, word-over, place-of-past, count-chunks}
 
 -- ---- places and kinds
@@ -31,17 +33,17 @@ present-word w = go (eqb w 0) (ltb w 268435456)
     go false true = refl
     go false false = refl
 
-pub in-row-is : (p : Place) → inRow (kindOf p) ≡ isSparse p
+pub in-row-is : (p : Place) → isSparse (kindOf p) ≡ hasRow p
 in-row-is Absent = refl
 in-row-is (Sparse r l) = refl
 in-row-is (Dense p) = refl
 
-pub in-page-is : (p : Place) → inPage (kindOf p) ≡ isDense p
+pub in-page-is : (p : Place) → isDense (kindOf p) ≡ hasPage p
 in-page-is Absent = refl
 in-page-is (Sparse r l) = refl
 in-page-is (Dense p) = refl
 
-present-one : (k : Kind) → boolByte (isPresent k) ≡ boolByte (inRow k) + boolByte (inPage k)
+present-one : (k : Kind) → boolByte (isPresent k) ≡ boolByte (isSparse k) + boolByte (isDense k)
 present-one absent = refl
 present-one sparse = refl
 present-one dense = refl
@@ -67,8 +69,8 @@ module _ (x : Mem) (o : Ordered (head x) (x .table)) where
   unfolding kinds
   count-kinds g none = count-chunks (head x) (x .table) o (λ (c : ℕ) (p : Place). g c (kindOf p)) none
 
-  pub chunks-entries : chunks x ≡ count (λ (e : ℕ). not (eqb (wordAt (head x) (x .table) e) 0)) (entries (head x) (x .table))
-  unfolding chunks
+  pub chunks-entries : chunksIn (stateOf x) ≡ count (λ (e : ℕ). not (eqb (wordAt (head x) (x .table) e) 0)) (entries (head x) (x .table))
+  unfolding chunksIn
   chunks-entries =
       count-kinds (λ (c : ℕ). isPresent) (λ c. refl)
       ∙ count-ext (λ (e : ℕ). isPresent (kindOf (placeAt (head x) (x .table) e))) (λ (e : ℕ). not (eqb (wordAt (head x) (x .table) e) 0)) (entries (head x) (x .table)) (λ e l. present-word (wordAt (head x) (x .table) e))
@@ -78,17 +80,17 @@ module _ (x : Mem) (o : Ordered (head x) (x .table)) where
   kinds-past c l = ap kindOf (place-of-past (head x) (x .table) o c l)
 
 -- each chunk is in a row or in a page
-pub chunks-both : (x : Mem) → chunks x ≡ count (λ (c : ℕ). inRow (kinds x c)) (lastChunk (head x)) + count (λ (c : ℕ). inPage (kinds x c)) (lastChunk (head x))
-unfolding chunks count
+pub chunks-both : (x : Mem) → chunksIn (stateOf x) ≡ count (λ (c : ℕ). isSparse (kinds x c)) (lastChunk (head x)) + count (λ (c : ℕ). isDense (kinds x c)) (lastChunk (head x))
+unfolding chunksIn count
 chunks-both x =
-    sum-ext (λ (c : ℕ). boolByte (isPresent (kinds x c))) (λ (c : ℕ). boolByte (inRow (kinds x c)) + boolByte (inPage (kinds x c))) (lastChunk (head x)) (λ c l. present-one (kinds x c))
-    ∙ sum-add (λ (c : ℕ). boolByte (inRow (kinds x c))) (λ (c : ℕ). boolByte (inPage (kinds x c))) (lastChunk (head x))
+    sum-ext (λ (c : ℕ). boolByte (isPresent (kinds x c))) (λ (c : ℕ). boolByte (isSparse (kinds x c)) + boolByte (isDense (kinds x c))) (lastChunk (head x)) (λ c l. present-one (kinds x c))
+    ∙ sum-add (λ (c : ℕ). boolByte (isSparse (kinds x c))) (λ (c : ℕ). boolByte (isDense (kinds x c))) (lastChunk (head x))
 
 -- ---- on memory that follows the layout
 
 module _ {x : Mem} (w : Follows x) where
   -- the overflow entries in use are chunks, each
-  pub chunks-over : chunks x ≡ count (λ (e : ℕ). not (eqb (wordAt (head x) (x .table) e) 0)) (head x .d) + overCount (x .table)
+  pub chunks-over : chunksIn (stateOf x) ≡ count (λ (e : ℕ). not (eqb (wordAt (head x) (x .table) e) 0)) (head x .d) + overCount (x .table)
   chunks-over =
       chunks-entries x (laid-ordered w)
       ∙ count-split (λ (e : ℕ). not (eqb (wordAt (head x) (x .table) e) 0)) (head x .d) (overCount (x .table))
@@ -116,21 +118,21 @@ module _ {x : Mem} (w : Follows x) where
           (present-word (wordAt (head x) (x .table) (head x .d + j)) ∙ ap not (ne-eqb (wordAt (head x) (x .table) (head x .d + j)) 0 (λ e. w .words j l (sym (word-over (head x) (x .table) j) ∙ e))))
 
   -- sparse chunks are rows with an owner, dense ones pages
-  pub sparse-rows : count (λ (c : ℕ). inRow (kinds x c)) (lastChunk (head x)) ≡ count (λ (r : ℕ). not (eqb (rowOwner (head x) (x .table) r) 0)) (head x .r)
+  pub sparse-rows : count (λ (c : ℕ). isSparse (kinds x c)) (lastChunk (head x)) ≡ count (λ (r : ℕ). not (eqb (rowOwner (head x) (x .table) r) 0)) (head x .r)
   sparse-rows =
-      count-kinds x (laid-ordered w) (λ (c : ℕ). inRow) (λ c. refl)
-      ∙ count-ext (λ (e : ℕ). inRow (kindOf (placeAt (head x) (x .table) e))) (λ (e : ℕ). isSparse (placeAt (head x) (x .table) e)) (entries (head x) (x .table)) (λ e l. in-row-is (placeAt (head x) (x .table) e))
+      count-kinds x (laid-ordered w) (λ (c : ℕ). isSparse) (λ c. refl)
+      ∙ count-ext (λ (e : ℕ). isSparse (kindOf (placeAt (head x) (x .table) e))) (λ (e : ℕ). hasRow (placeAt (head x) (x .table) e)) (entries (head x) (x .table)) (λ e l. in-row-is (placeAt (head x) (x .table) e))
       ∙ sym (w .rows-used)
 
-  pub dense-pages : count (λ (c : ℕ). inPage (kinds x c)) (lastChunk (head x)) ≡ count (λ (p : ℕ). not (eqb (pageOwner (head x) (x .table) p) 0)) (head x .p)
+  pub dense-pages : count (λ (c : ℕ). isDense (kinds x c)) (lastChunk (head x)) ≡ count (λ (p : ℕ). not (eqb (pageOwner (head x) (x .table) p) 0)) (head x .p)
   dense-pages =
-      count-kinds x (laid-ordered w) (λ (c : ℕ). inPage) (λ c. refl)
-      ∙ count-ext (λ (e : ℕ). inPage (kindOf (placeAt (head x) (x .table) e))) (λ (e : ℕ). isDense (placeAt (head x) (x .table) e)) (entries (head x) (x .table)) (λ e l. in-page-is (placeAt (head x) (x .table) e))
+      count-kinds x (laid-ordered w) (λ (c : ℕ). isDense) (λ c. refl)
+      ∙ count-ext (λ (e : ℕ). isDense (kindOf (placeAt (head x) (x .table) e))) (λ (e : ℕ). hasPage (placeAt (head x) (x .table) e)) (entries (head x) (x .table)) (λ e l. in-page-is (placeAt (head x) (x .table) e))
       ∙ sym (w .pages-used)
 
   -- and the others are free
-  pub rows-free : count (λ (r : ℕ). eqb (rowOwner (head x) (x .table) r) 0) (head x .r) + count (λ (c : ℕ). inRow (kinds x c)) (lastChunk (head x)) ≡ head x .r
+  pub rows-free : count (λ (r : ℕ). eqb (rowOwner (head x) (x .table) r) 0) (head x .r) + count (λ (c : ℕ). isSparse (kinds x c)) (lastChunk (head x)) ≡ head x .r
   rows-free = let a = sparse-rows in let b = count-not (λ (r : ℕ). eqb (rowOwner (head x) (x .table) r) 0) (head x .r) in omega arith
 
-  pub pages-free : count (λ (p : ℕ). eqb (pageOwner (head x) (x .table) p) 0) (head x .p) + count (λ (c : ℕ). inPage (kinds x c)) (lastChunk (head x)) ≡ head x .p
+  pub pages-free : count (λ (p : ℕ). eqb (pageOwner (head x) (x .table) p) 0) (head x .p) + count (λ (c : ℕ). isDense (kinds x c)) (lastChunk (head x)) ≡ head x .p
   pages-free = let a = dense-pages in let b = count-not (λ (p : ℕ). eqb (pageOwner (head x) (x .table) p) 0) (head x .p) in omega arith

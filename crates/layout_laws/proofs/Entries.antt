@@ -14,12 +14,13 @@ use Rattle.sums.specs.Ids.{count}
 use Rattle.sums.proofs.Sums.{sum-ext, sum-none, sum-split}
 use Rattle.sparse.specs.Row.{Rising}
 use Rattle.layout.specs.Mem.{Mem}
-use Rattle.layout.specs.Sizes.{InRange, lastChunk, overAt, directAt, overCount}
+use Rattle.document.specs.Sizes.{InRange, lastChunk}
+use Rattle.layout.specs.Sizes.{overAt, directAt, overCount}
 use Rattle.layout.specs.Places.{decoded}
 use Rattle.layout.specs.Entries.{entries, chunkAt, wordAt, prefixAt, placeAt, beside, wordOf, placeOf}
 use Rattle.layout.specs.Follows.{Key, Laid}
 use Rattle.layout.specs.Tests.{Walked}
-use Rattle.layout.specs.declared.head.Header.{Header}
+use Rattle.document.specs.declared.sizes.Sizes.{Sizes}
 use Rattle.layout.specs.declared.place.Place.{Place}
 use Rattle.layout.specs.declared.place.Place.the-variants.{Absent}
 use Rattle.layout_laws.proofs.Sizes.{direct-last}
@@ -27,7 +28,7 @@ use Rattle.layout_laws.proofs.Keys.{Sought, found, missed, seek, rising
 
 -- ---- entry by entry, on any table
 
-module _ (h : Header) (t : List ℕ) where
+module _ (h : Sizes) (t : List ℕ) where
   pub chunk-direct : (e : ℕ) → e < h .d → chunkAt h t e ≡ e
   unfolding chunkAt
   chunk-direct e l = ap (λ (b : Bool). cond b e (getD t (overAt h (e - h .d)) 0)) (lt-ltb e (h .d) l)
@@ -73,17 +74,17 @@ which d e = go (ltb e d) refl
 -- ---- where the ids of overflow entries rise
 
 -- the rules on sizes and overflow ids
-pub record Ordered (h : Header) (t : List ℕ) : Type 0 where
+pub record Ordered (h : Sizes) (t : List ℕ) : Type 0 where
   pub sizes : InRange h
   pub keys : (j : ℕ) → j < overCount t → Key h t j
 
-pub walked-ordered : {x : Mem} {h : Header} → Walked x h → Ordered h (x .table)
+pub walked-ordered : {x : Mem} {h : Sizes} → Walked x h → Ordered h (x .table)
 walked-ordered w = record { sizes = w .sizes; keys = w .keys }
 
-pub laid-ordered : {x : Mem} {h : Header} → Laid x h → Ordered h (x .table)
+pub laid-ordered : {x : Mem} {h : Sizes} → Laid x h → Ordered h (x .table)
 laid-ordered w = record { sizes = w .sizes; keys = w .keys }
 
-module _ (h : Header) (t : List ℕ) (o : Ordered h t) where
+module _ (h : Sizes) (t : List ℕ) (o : Ordered h t) where
   pub chunk-below : (e : ℕ) → e < entries h t → chunkAt h t e < lastChunk h
   chunk-below e l = go (which (h .d) e)
     where
@@ -155,15 +156,15 @@ module _ (h : Header) (t : List ℕ) (o : Ordered h t) where
 
 -- ---- a chunk id that no entry has
 
-pub entry-of : (h : Header) (t : List ℕ) (c : ℕ) → Sought (chunkAt h t) (entries h t) c
+pub entry-of : (h : Sizes) (t : List ℕ) (c : ℕ) → Sought (chunkAt h t) (entries h t) c
 entry-of h t c = seek (chunkAt h t) (entries h t) c
 
-pub word-of-none : (h : Header) (t : List ℕ) (c : ℕ) → ((e : ℕ) → e < entries h t → chunkAt h t e ≢ c) → wordOf h t c ≡ 0
+pub word-of-none : (h : Sizes) (t : List ℕ) (c : ℕ) → ((e : ℕ) → e < entries h t → chunkAt h t e ≢ c) → wordOf h t c ≡ 0
 unfolding wordOf
 word-of-none h t c = beside-none (chunkAt h t) (wordAt h t) (entries h t) c
 
 -- past the direct chunks only overflow entries count
-pub word-of-over : (h : Header) (t : List ℕ) (c : ℕ) → h .d ≤ c → wordOf h t c ≡ beside (λ (j : ℕ). getD t (overAt h j) 0) (λ (j : ℕ). getD t (overAt h j + 1) 0) (overCount t) c
+pub word-of-over : (h : Sizes) (t : List ℕ) (c : ℕ) → h .d ≤ c → wordOf h t c ≡ beside (λ (j : ℕ). getD t (overAt h j) 0) (λ (j : ℕ). getD t (overAt h j + 1) 0) (overCount t) c
 unfolding wordOf beside
 word-of-over h t c l =
     let a = sum-split (λ (e : ℕ). cond (eqb (chunkAt h t e) c) (wordAt h t e) 0) (h .d) (overCount t) in
@@ -173,7 +174,7 @@ word-of-over h t c l =
     omega arith
 
 -- what holds of every entry's place holds of every chunk's
-pub place-of-any : (h : Header) (t : List ℕ) → Ordered h t → (P : ℕ → Place → Type 0) → ((c : ℕ) → P c Absent) → ((e : ℕ) → e < entries h t → P (chunkAt h t e) (placeAt h t e)) → (c : ℕ) → P c (placeOf h t c)
+pub place-of-any : (h : Sizes) (t : List ℕ) → Ordered h t → (P : ℕ → Place → Type 0) → ((c : ℕ) → P c Absent) → ((e : ℕ) → e < entries h t → P (chunkAt h t e) (placeAt h t e)) → (c : ℕ) → P c (placeOf h t c)
 place-of-any h t o P none each c = go (entry-of h t c)
   where
     go : Sought (chunkAt h t) (entries h t) c → P c (placeOf h t c)

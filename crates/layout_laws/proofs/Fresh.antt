@@ -9,13 +9,16 @@ use lib.Seq.{getD-append-add, getD-drop}
 use lib.Dec.{eqb}
 use Rattle.sums.proofs.Counts.{count-none}
 use Rattle.layout.specs.Mem.{Mem}
-use Rattle.layout.specs.Sizes.{InRange, RoomIn, top, wide, blocksOf, lastChunk, overAt, directAt, rowOwnersAt, pageOwnersAt, tableSize, head, modeAt, overCount}
-use Rattle.layout.specs.Places.{decoded, isSparse, isDense, rowOwner, pageOwner}
+use Rattle.document.specs.Sizes.{InRange, top, lastChunk}
+use Rattle.layout.specs.Sizes.{RoomIn, wide, blocksOf, overAt, directAt, rowOwnersAt, pageOwnersAt, tableSize, head, modeAt, overCount}
+use Rattle.layout.specs.Places.{decoded, hasRow, hasPage, rowOwner, pageOwner}
 use Rattle.layout.specs.Entries.{entries, chunkAt, prefixAt, placeAt, placeOf}
-use Rattle.layout.specs.Meaning.{offsets, holds, kindOf, kinds, absent, isPresent, chunks, ranked}
+use Rattle.document.specs.State.{absent, isPresent}
+use Rattle.layout.specs.Meaning.{offsets, holds, kindOf, kinds, ranked, stateOf}
+use Rattle.document.specs.Answers.{chunksIn}
 use Rattle.layout.specs.Follows.{AllZero, Owned, RowListed, kept, Laid, Follows}
 use Rattle.layout.specs.SetUp.{zeroed, freshTable, fresh}
-use Rattle.layout.specs.declared.head.Header.{Header}
+use Rattle.document.specs.declared.sizes.Sizes.{Sizes}
 use Rattle.layout.specs.declared.place.Place.{Place}
 use Rattle.layout.specs.declared.place.Place.the-variants.{Absent}
 use Rattle.layout_laws.proofs.Entries.{word-direct, prefix-direct, place-of-any}
@@ -23,7 +26,7 @@ use Rattle.layout_laws.proofs.Sizes.{slot-inside}
 
 -- ---- memory that is zero past the sizes
 
-pub record Blank (y : Mem) (h : Header) : Type 0 where
+pub record Blank (y : Mem) (h : Sizes) : Type 0 where
   pub sizes : InRange h
   pub room : RoomIn h y
   pub table : (i : ℕ) → 6 ≤ i → i < tableSize h → getD (y .table) i 0 ≡ 0
@@ -39,7 +42,7 @@ kept-open y e n = ap (λ (m : ℕ). cond (eqb m 1) n 0) e
 part-zero : (xs : List ℕ) (i n k : ℕ) → i < n → ((j : ℕ) → j < n * k → getD xs j 0 ≡ 0) → AllZero xs (i * k) k
 part-zero xs i n k l z j m = let s = slot-inside i n k l in z (i * k + j) (omega arith)
 
-module _ (y : Mem) (h : Header) (b : Blank y h) where
+module _ (y : Mem) (h : Sizes) (b : Blank y h) where
   blank-mode : modeAt (y .table) ≡ 0
   blank-mode = b .table 6 (omega arith) (omega arith)
 
@@ -77,10 +80,10 @@ module _ (y : Mem) (h : Header) (b : Blank y h) where
         free-pages = λ p l _. part-zero (y .pages) p (h .p) (wide h) l (b .pages);
         rows-used =
             count-none (λ (r : ℕ). not (eqb (rowOwner h (y .table) r) 0)) (h .r) (λ r l. ap (λ (w : ℕ). not (eqb w 0)) (b .table (rowOwnersAt h + r) (omega arith) (omega arith)))
-            ∙ sym (count-none (λ (e : ℕ). isSparse (placeAt h (y .table) e)) (entries h (y .table)) (λ e l. ap isSparse (blank-place e l)));
+            ∙ sym (count-none (λ (e : ℕ). hasRow (placeAt h (y .table) e)) (entries h (y .table)) (λ e l. ap hasRow (blank-place e l)));
         pages-used =
             count-none (λ (p : ℕ). not (eqb (pageOwner h (y .table) p) 0)) (h .p) (λ p l. ap (λ (w : ℕ). not (eqb w 0)) (b .table (pageOwnersAt h + p) (omega arith) (omega arith)))
-            ∙ sym (count-none (λ (e : ℕ). isDense (placeAt h (y .table) e)) (entries h (y .table)) (λ e l. ap isDense (blank-place e l)));
+            ∙ sym (count-none (λ (e : ℕ). hasPage (placeAt h (y .table) e)) (entries h (y .table)) (λ e l. ap hasPage (blank-place e l)));
         prefixes = λ e l. blank-prefix e l ∙ sym (kept-open y o _);
         total = b .table 8 (omega arith) (omega arith) ∙ sym (kept-open y o _);
         blocks = λ p i l m. part-zero (y .blocks) p (h .p) (blocksOf h) l (b .blocks) i m ∙ sym (kept-open y o _);
@@ -121,10 +124,10 @@ zeroed-length n xs l = front-length (replicate n 0) xs n (length-replicate n 0) 
 
 -- ---- the table
 
-abbrev sixed : Header → ℕ → List ℕ
+abbrev sixed : Sizes → ℕ → List ℕ
 sixed h n = h .s ∷ h .m ∷ h .d ∷ h .v ∷ h .r ∷ h .p ∷ replicate n 0
 
-module _ (h : Header) where
+module _ (h : Sizes) where
   sixed-length : length (sixed h (tableSize h - 6)) ≡ tableSize h
   sixed-length = let e = length-replicate {A = ℕ} (tableSize h - 6) 0 in omega arith
 
@@ -150,11 +153,11 @@ module _ (h : Header) where
 
 -- ---- what set-up makes
 
-pub head-fresh : (h : Header) (x : Mem) → head (fresh h x) ≡ h
+pub head-fresh : (h : Sizes) (x : Mem) → head (fresh h x) ≡ h
 unfolding fresh freshTable
 head-fresh h x = refl
 
-module _ (h : Header) (x : Mem) (sizes : InRange h) (room : RoomIn h x) where
+module _ (h : Sizes) (x : Mem) (sizes : InRange h) (room : RoomIn h x) where
   pub fresh-blank : Blank (fresh h x) h
   unfolding fresh
   fresh-blank =
@@ -179,7 +182,7 @@ module _ (h : Header) (x : Mem) (sizes : InRange h) (room : RoomIn h x) where
   fresh-follows = subst (Laid (fresh h x)) (sym (head-fresh h x)) (blank-laid (fresh h x) h fresh-blank)
 
   pub fresh-absent : (c : ℕ) → placeOf (head (fresh h x)) (fresh h x .table) c ≡ Absent
-  fresh-absent c = ap (λ (k : Header). placeOf k (fresh h x .table) c) (head-fresh h x) ∙ blank-absent (fresh h x) h fresh-blank c
+  fresh-absent c = ap (λ (k : Sizes). placeOf k (fresh h x .table) c) (head-fresh h x) ∙ blank-absent (fresh h x) h fresh-blank c
 
   -- no id is a member, no chunk is there, and the set is open
   pub fresh-holds : (n : ℕ) → holds (fresh h x) n ≡ false
@@ -190,8 +193,8 @@ module _ (h : Header) (x : Mem) (sizes : InRange h) (room : RoomIn h x) where
   unfolding kinds
   fresh-kinds c = ap kindOf (fresh-absent c)
 
-  pub fresh-chunks : chunks (fresh h x) ≡ 0
-  unfolding chunks
+  pub fresh-chunks : chunksIn (stateOf (fresh h x)) ≡ 0
+  unfolding chunksIn
   fresh-chunks = count-none (λ (c : ℕ). isPresent (kinds (fresh h x) c)) (lastChunk (head (fresh h x))) (λ c l. ap isPresent (fresh-kinds c))
 
   pub fresh-open : ranked (fresh h x) ≡ false
@@ -207,7 +210,7 @@ pub record Beyond (n : ℕ) (xs ys : List ℕ) : Type 0 where
 zeroed-beyond : (n : ℕ) (xs : List ℕ) → n ≤ length xs → Beyond n xs (zeroed n xs)
 zeroed-beyond n xs l = record { long = zeroed-length n xs l; same = zeroed-past n xs }
 
-module _ (h : Header) (x : Mem) (room : RoomIn h x) where
+module _ (h : Sizes) (x : Mem) (room : RoomIn h x) where
   pub fresh-pages-beyond : Beyond (h .p * wide h) (x .pages) (fresh h x .pages)
   unfolding fresh
   fresh-pages-beyond = zeroed-beyond (h .p * wide h) (x .pages) (room .in-pages)

@@ -16,7 +16,7 @@ use Rattle.layout.specs.Places.{rowPart, pagePart, rowOwner, pageOwner}
 use Rattle.layout.specs.Entries.{entries, chunkAt, placeAt, placeOf}
 use Rattle.layout.specs.Follows.{AllZero, OwnsRow, OwnsPage, Owned, Laid}
 use Rattle.layout.specs.Tests.{Walked}
-use Rattle.layout.specs.declared.head.Header.{Header}
+use Rattle.document.specs.declared.sizes.Sizes.{Sizes}
 use Rattle.layout.specs.declared.place.Place.the-variants.{Sparse, Dense}
 use Rattle.layout_laws.proofs.Sizes.{part-at, part-short}
 use Rattle.layout_laws.proofs.Entries.{walked-ordered, chunk-once}
@@ -34,7 +34,7 @@ clear-word : (ws : List ℕ) (o : ℕ) → getD ws (o / 64) 0 ≡ 0 → isSet ws
 unfolding isSet bit
 clear-word ws o e = ap (λ (d : ℕ). eqb d 1) (ap (λ (v : ℕ). v / 2 ^ (o % 64) % 2) e ∙ ap (λ (q : ℕ). q % 2) (zero-div (2 ^ (o % 64))))
 
-module _ {x : Mem} {h : Header} (w : Walked x h) where
+module _ {x : Mem} {h : Sizes} (w : Walked x h) where
   -- ---- by chunks
 
   pub row-of : (c r l : ℕ) → placeOf h (x .table) c ≡ Sparse r l → OwnsRow h (x .table) c r l
@@ -72,7 +72,7 @@ module _ {x : Mem} {h : Header} (w : Walked x h) where
 
 -- ---- free rows and pages
 
-module _ {x : Mem} {h : Header} (w : Laid x h) where
+module _ {x : Mem} {h : Sizes} (w : Laid x h) where
   pub free-row-clear : (r : ℕ) → r < h .r → rowOwner h (x .table) r ≡ 0 → (j : ℕ) → getD (rowPart h (x .rows) r) j 0 ≡ 0
   free-row-clear r l e = part-clear (x .rows) (r * h .m) (h .m) (w .free-rows r l e)
 

@@ -13,17 +13,18 @@ use Rattle.sparse.proofs.Rows.{member-of}
 use Rattle.dense.specs.Bits.{isSet}
 use Rattle.dense.proofs.Bits.{bit-past}
 use Rattle.layout.specs.Mem.{Mem}
-use Rattle.layout.specs.Sizes.{InRange, top, wide, head}
+use Rattle.document.specs.Sizes.{InRange, top}
+use Rattle.layout.specs.Sizes.{wide, head}
 use Rattle.layout.specs.Places.{rowPart, pagePart}
 use Rattle.layout.specs.Entries.{placeOf, wordOf}
 use Rattle.layout.specs.Meaning.{offsets, holds}
 use Rattle.layout.specs.Follows.{RowListed}
 use Rattle.layout.specs.Tests.{Walked}
 use Rattle.layout.specs.Short.{spotOf}
-use Rattle.layout.specs.declared.head.Header.{Header}
+use Rattle.document.specs.declared.sizes.Sizes.{Sizes}
 use Rattle.layout.specs.declared.place.Place.{Place}
 use Rattle.layout.specs.declared.place.Place.the-variants.{Absent, Sparse, Dense}
-use Rattle.layout_laws.specs.Chunks.{spotBy, spotHas, spotBelow, belowAt}
+use Rattle.layout_laws.specs.Chunks.{spotOn, spotHas, spotBelow, belowIn}
 use Rattle.layout_laws.proofs.Sizes.{wide-top, part-short}
 use Rattle.layout_laws.proofs.Short.{spot-is}
 
@@ -45,12 +46,12 @@ module _ (x : Mem) (n : ℕ) where
 
 -- ---- by the part of a pool
 
-pub spot-has : (h : Header) (x : Mem) (p : Place) (o : ℕ) → spotHas x (spotBy h p) o ≡ offsets h x p o
+pub spot-has : (h : Sizes) (x : Mem) (p : Place) (o : ℕ) → spotHas x (spotOn h p) o ≡ offsets h x p o
 spot-has h x Absent o = refl
 spot-has h x (Sparse r l) o = refl
 spot-has h x (Dense p) o = refl
 
-pub spot-below : (h : Header) (x : Mem) (p : Place) (o : ℕ) → spotBelow x (spotBy h p) o ≡ belowAt h x p o
+pub spot-below : (h : Sizes) (x : Mem) (p : Place) (o : ℕ) → spotBelow x (spotOn h p) o ≡ belowIn h x p o
 spot-below h x Absent o = refl
 spot-below h x (Sparse r l) o = refl
 spot-below h x (Dense p) o = refl
@@ -66,7 +67,7 @@ past-clear : (ws : List ℕ) (o : ℕ) → 64 * length ws ≤ o → isSet ws o �
 unfolding isSet
 past-clear ws o l = ap (λ (d : ℕ). eqb d 1) (bit-past ws o l)
 
-pub offsets-past : (h : Header) (x : Mem) → InRange h → (p : Place) → RowListed h (x .rows) p → (o : ℕ) → top h ≤ o → offsets h x p o ≡ false
+pub offsets-past : (h : Sizes) (x : Mem) → InRange h → (p : Place) → RowListed h (x .rows) p → (o : ℕ) → top h ≤ o → offsets h x p o ≡ false
 offsets-past h x z Absent w o m = refl
 offsets-past h x z (Sparse r l) w o m = go (member (rowOf (rowPart h (x .rows) r)) l o) refl
   where

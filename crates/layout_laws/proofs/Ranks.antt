@@ -11,13 +11,14 @@ use Rattle.sums.specs.Sums.{sumTo}
 use Rattle.sums.specs.Ids.{count, total}
 use Rattle.dense.specs.Bits.{bitsTo}
 use Rattle.layout.specs.Mem.{Mem}
-use Rattle.layout.specs.Sizes.{top, blocksOf, head, overAt, overCount, totalAt}
+use Rattle.document.specs.Sizes.{top}
+use Rattle.layout.specs.Sizes.{blocksOf, head, overAt, overCount, totalAt}
 use Rattle.layout.specs.Places.{pagePart}
 use Rattle.layout.specs.Entries.{entries, chunkAt, prefixAt, wordOf, placeOf}
 use Rattle.layout.specs.Meaning.{holds, ranked}
 use Rattle.layout.specs.Follows.{membersAt, kept, Follows}
 use Rattle.layout.specs.Short.{overPlace, spotOf}
-use Rattle.layout.specs.declared.head.Header.{Header}
+use Rattle.document.specs.declared.sizes.Sizes.{Sizes}
 use Rattle.layout_laws.specs.Chunks.{entryFrom, firstRank, spotBelow}
 use Rattle.layout_laws.proofs.Keys.{Cut}
 use Rattle.layout_laws.proofs.Halving.{lower-first}
@@ -29,7 +30,7 @@ use Rattle.layout_laws.proofs.Members.{count-cut, count-entry, count-to
 
 -- ---- the entry of the first chunk that is not below c
 
-module _ (h : Header) (t : List ℕ) (o : Ordered h t) (c : ℕ) where
+module _ (h : Sizes) (t : List ℕ) (o : Ordered h t) (c : ℕ) where
   cut-direct : c < h .d → Cut (chunkAt h t) (entries h t) c c
   cut-direct l = record { fits = omega arith; before = λ e m. (let q = chunk-direct h t e (omega arith) in omega arith); after = λ e a b. go e a b (which (h .d) e) }
     where

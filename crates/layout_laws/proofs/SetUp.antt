@@ -3,11 +3,12 @@ use mathlib.Core.Path.{_≡_, refl, ap, _∙_}
 use mathlib.Core.Bool.{Bool, true, false, cond}
 use Rattle.sums.specs.Rules.{Decides}
 use Rattle.layout.specs.Mem.{Mem}
-use Rattle.layout.specs.Sizes.{InRange, RoomIn}
+use Rattle.document.specs.Sizes.{InRange}
+use Rattle.layout.specs.Sizes.{RoomIn}
 use Rattle.layout.specs.Tests.{inRange, roomIn}
 use Rattle.layout.specs.SetUp.{Did, did, fresh, setUpBy}
-use Rattle.layout.specs.declared.head.Header.{Header}
-use Rattle.layout.specs.declared.answer.Outcome.the-variants.{Done, Refused}
+use Rattle.document.specs.declared.sizes.Sizes.{Sizes}
+use Rattle.document.specs.declared.answer.Outcome.the-variants.{Done, Refused}
 use Rattle.layout.proofs.Tests.{range-of, room-of}
 
 -- a test of what doesn't hold
@@ -15,7 +16,7 @@ refuted : (b : Bool) {P : Type 0} → Decides b P → (P → ⊥) → b ≡ fals
 refuted true d n = absurd (n (d .sound refl))
 refuted false d n = refl
 
-module _ (h : Header) (x : Mem) where
+module _ (h : Sizes) (x : Mem) where
   room-tested : Bool → Did
   room-tested b = cond b (did Done (fresh h x)) (did (Refused 2) x)
 

@@ -9,17 +9,18 @@ use lib.Dec.{ltb, leb}
 use borrow.Author.Tests.{ltb-true, ltb-false, lt-ltb, le-leb}
 use Rattle.sparse.specs.Row.{Rising}
 use Rattle.layout.specs.Mem.{Mem}
-use Rattle.layout.specs.Sizes.{InRange, RoomIn, wide, directAt, overAt, overCount, head}
+use Rattle.document.specs.Sizes.{InRange}
+use Rattle.layout.specs.Sizes.{RoomIn, wide, directAt, overAt, overCount, head}
 use Rattle.layout.specs.Entries.{wordOf, placeOf}
 use Rattle.layout.specs.Follows.{Owned}
 use Rattle.layout.specs.Tests.{Walked}
 use Rattle.layout.specs.Short.{keyAt, overPlace, overWord, directWord, overflowWord, wordIn, spotAt, spotOf}
-use Rattle.layout.specs.declared.head.Header.{Header}
+use Rattle.document.specs.declared.sizes.Sizes.{Sizes}
 use Rattle.layout.specs.declared.find.Word.the-variants as word
 use Rattle.layout.specs.declared.find.Spot.the-variants.{Row, Page, Bad}
 use Rattle.layout.specs.declared.place.Place.{Place}
 use Rattle.layout.specs.declared.place.Place.the-variants.{Absent, Sparse, Dense}
-use Rattle.layout_laws.specs.Chunks.{spotBy}
+use Rattle.layout_laws.specs.Chunks.{spotOn}
 use Rattle.layout_laws.proofs.Sizes.{slot-inside}
 use Rattle.layout_laws.proofs.Keys.{rising-by, beside-cut}
 use Rattle.layout_laws.proofs.Halving.{lower-first}
@@ -28,10 +29,10 @@ use Rattle.layout_laws.proofs.Entries.{Ordered, walked-ordered, word-di
 -- ---- a chunk's word
 
 -- the ids of overflow entries rise
-pub over-rising : (h : Header) (t : List ℕ) → Ordered h t → Rising (λ (j : ℕ). getD t (overAt h j) 0) (overCount t)
+pub over-rising : (h : Sizes) (t : List ℕ) → Ordered h t → Rising (λ (j : ℕ). getD t (overAt h j) 0) (overCount t)
 over-rising h t o = rising-by (λ (j : ℕ). getD t (overAt h j) 0) (overCount t) (λ j l. o .keys j (omega arith) .rising l)
 
-module _ (h : Header) (t : List ℕ) (o : Ordered h t) (c : ℕ) where
+module _ (h : Sizes) (t : List ℕ) (o : Ordered h t) (c : ℕ) where
   pub over-word-is : h .d ≤ c → overWord t (16 + 2 * h .d) (overCount t) c (overPlace t (16 + 2 * h .d) (overCount t) c) ≡ wordOf h t c
   over-word-is l =
       let key = keyAt t (16 + 2 * h .d) in
@@ -63,10 +64,10 @@ word-in-is x w c = go (ltb c (getD (x .table) 2 0)) refl
 -- ---- a place's part of its pool
 
 -- every chunk's place is inside its pool, and the chunk's own
-pub owned-of : {x : Mem} {h : Header} → Walked x h → (c : ℕ) → Owned h (x .table) c (placeOf h (x .table) c)
+pub owned-of : {x : Mem} {h : Sizes} → Walked x h → (c : ℕ) → Owned h (x .table) c (placeOf h (x .table) c)
 owned-of {x} {h} w = place-of-any h (x .table) (walked-ordered w) (Owned h (x .table)) (λ c. tt) (w .places)
 
-pub spot-inside : (x : Mem) (h : Header) → InRange h → RoomIn h x → (c : ℕ) (p : Place) → Owned h (x .table) c p → spotAt (h .s) (h .m) (length (x .pages)) (length (x .rows)) p ≡ spotBy h p
+pub spot-inside : (x : Mem) (h : Sizes) → InRange h → RoomIn h x → (c : ℕ) (p : Place) → Owned h (x .table) c p → spotAt (h .s) (h .m) (length (x .pages)) (length (x .rows)) p ≡ spotOn h p
 spot-inside x h z r c Absent u = refl
 spot-inside x h z r c (Sparse i l) u =
     let a = r .in-rows in
@@ -83,6 +84,6 @@ spot-inside x h z r c (Dense p) u =
     ap (λ (b : Bool). cond b (Page (p * wide h) (wide h)) Bad)
     (ap₂ _&&_ (lt-ltb p 65536 (omega arith)) (le-leb (p * wide h + wide h) (length (x .pages)) (omega arith)))
 
-pub spot-is : {x : Mem} {h : Header} → Walked x h → (c : ℕ) → spotOf (h .s) (h .m) (length (x .pages)) (length (x .rows)) (wordOf h (x .table) c) ≡ spotBy h (placeOf h (x .table) c)
+pub spot-is : {x : Mem} {h : Sizes} → Walked x h → (c : ℕ) → spotOf (h .s) (h .m) (length (x .pages)) (length (x .rows)) (wordOf h (x .table) c) ≡ spotOn h (placeOf h (x .table) c)
 unfolding spotOf
 spot-is {x} {h} w c = spot-inside x h (w .sizes) (w .room) c (placeOf h (x .table) c) (owned-of w c)

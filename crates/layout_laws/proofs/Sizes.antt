@@ -8,9 +8,10 @@ use lib.ListN.{length, getD, take, drop, length-take, length-drop}
 use lib.Seq.{getD-take, getD-drop}
 use lib.Pow.{pow-mono, pow-add}
 use Rattle.layout.specs.Mem.{Mem}
-use Rattle.layout.specs.Sizes.{InRange, RoomIn, top, wide, blocksOf, lastChunk}
+use Rattle.document.specs.Sizes.{InRange, top, lastChunk}
+use Rattle.layout.specs.Sizes.{RoomIn, wide, blocksOf}
 use Rattle.layout.specs.Places.{rowPart, pagePart, blockPart}
-use Rattle.layout.specs.declared.head.Header.{Header}
+use Rattle.document.specs.declared.sizes.Sizes.{Sizes}
 
 -- ---- powers of two
 
@@ -18,7 +19,7 @@ use Rattle.layout.specs.declared.head.Header.{Header}
 pub pow-less : (j k : ℕ) → j ≤ k → 2 ^ (k - j) * 2 ^ j ≡ 2 ^ k
 pow-less j k l = let e : k - j + j ≡ k = omega arith in sym (pow-add 2 (k - j) j) ∙ ap (λ (i : ℕ). 2 ^ i) e
 
-module _ (h : Header) (z : InRange h) where
+module _ (h : Sizes) (z : InRange h) where
   -- 2^(63-s) chunks of 2^s ids
   pub all-ids : lastChunk h * top h ≡ 2 ^ 63
   all-ids = let a = z .s-high in pow-less (h .s) 63 (omega arith)
@@ -52,7 +53,7 @@ part-length xs a k l = let p = length-take k (drop a xs) in let q = length-drop 
 pub part-short : (xs : List ℕ) (a k : ℕ) → length (take k (drop a xs)) ≤ k
 part-short xs a k = let p = length-take k (drop a xs) in omega arith
 
-module _ (h : Header) (x : Mem) (room : RoomIn h x) where
+module _ (h : Sizes) (x : Mem) (room : RoomIn h x) where
   pub row-length : (r : ℕ) → r < h .r → length (rowPart h (x .rows) r) ≡ h .m
   row-length r l = let a = room .in-rows in let s = slot-inside r (h .r) (h .m) l in part-length (x .rows) (r * h .m) (h .m) (omega arith)
 

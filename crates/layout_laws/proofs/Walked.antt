@@ -4,10 +4,10 @@ use mathlib.Core.Bool.{true}
 use Rattle.layout.specs.Mem.{Mem}
 use Rattle.layout.specs.Follows.{Laid, Follows}
 use Rattle.layout.specs.Tests.{Walked, walked}
-use Rattle.layout.specs.declared.head.Header.{Header}
+use Rattle.document.specs.declared.sizes.Sizes.{Sizes}
 use Rattle.layout.proofs.Tests.{walked-of}
 
-pub laid-walked : {x : Mem} {h : Header} → Laid x h → Walked x h
+pub laid-walked : {x : Mem} {h : Sizes} → Laid x h → Walked x h
 laid-walked w = record { sizes = w .sizes; room = w .room; mode = w .mode; over-fits = w .over-fits; keys = w .keys; places = w .places }
 
 pub follows-walked : {x : Mem} → Follows x → walked x ≡ true

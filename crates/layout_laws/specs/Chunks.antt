@@ -8,22 +8,24 @@ use Rattle.sums.specs.Ids.{count}
 use Rattle.sparse.specs.Row.{rowOf, member, belowOf}
 use Rattle.dense.specs.Bits.{isSet, bitsTo}
 use Rattle.layout.specs.Mem.{Mem}
-use Rattle.layout.specs.Sizes.{top, wide, head, overCount, totalAt}
+use Rattle.document.specs.Sizes.{top}
+use Rattle.layout.specs.Sizes.{wide, head, overCount, totalAt}
 use Rattle.layout.specs.Places.{rowPart, pagePart}
 use Rattle.layout.specs.Entries.{entries, prefixAt, placeOf}
-use Rattle.layout.specs.Meaning.{offsets, Kind, absent, sparse, dense}
+use Rattle.document.specs.State.{Kind, absent, sparse, dense}
+use Rattle.layout.specs.Meaning.{offsets}
 use Rattle.layout.specs.Short.{overPlace}
-use Rattle.layout.specs.declared.head.Header.{Header}
+use Rattle.document.specs.declared.sizes.Sizes.{Sizes}
 use Rattle.layout.specs.declared.find.Spot.{Spot}
 use Rattle.layout.specs.declared.find.Spot.the-variants.{Nowhere, Row, Page, Bad}
 use Rattle.layout.specs.declared.place.Place.{Place}
 use Rattle.layout.specs.declared.place.Place.the-variants.{Absent, Sparse, Dense}
 
 -- the part of a pool that a place is
-abbrev pub spotBy : Header → Place → Spot
-spotBy h Absent = Nowhere
-spotBy h (Sparse r l) = Row (r * h .m) (h .m) l
-spotBy h (Dense p) = Page (p * wide h) (wide h)
+abbrev pub spotOn : Sizes → Place → Spot
+spotOn h Absent = Nowhere
+spotOn h (Sparse r l) = Row (r * h .m) (h .m) l
+spotOn h (Dense p) = Page (p * wide h) (wide h)
 
 -- what a part holds: whether offset o is in it, and how many below o
 abbrev pub spotHas : Mem → Spot → ℕ → Bool
@@ -39,7 +41,7 @@ spotBelow x (Page a k) o = bitsTo (take k (drop a (x .pages))) o
 spotBelow x Bad o = 0
 
 -- the entry of the first chunk that is not below c
-unfoldable pub entryFrom : Header → List ℕ → ℕ → ℕ
+unfoldable pub entryFrom : Sizes → List ℕ → ℕ → ℕ
 entryFrom h t c = cond (ltb c (h .d)) c (h .d + overPlace t (16 + 2 * h .d) (overCount t) c)
 
 -- what a ranked set says of chunk c's first id: the prefix of that entry, or past the last one the total
@@ -50,21 +52,11 @@ firstRank x c =
     (totalAt (x .table))
 
 -- members at a place below offset o
-abbrev pub belowAt : Header → Mem → Place → ℕ → ℕ
-belowAt h x Absent o = 0
-belowAt h x (Sparse r l) o = belowOf (rowOf (rowPart h (x .rows) r)) l o
-belowAt h x (Dense p) o = bitsTo (pagePart h (x .pages) p) o
+abbrev pub belowIn : Sizes → Mem → Place → ℕ → ℕ
+belowIn h x Absent o = 0
+belowIn h x (Sparse r l) o = belowOf (rowOf (rowPart h (x .rows) r)) l o
+belowIn h x (Dense p) o = bitsTo (pagePart h (x .pages) p) o
 
 -- members of chunk c
-unfoldable pub chunkSize : Mem → ℕ → ℕ
-chunkSize x c = count (offsets (head x) x (placeOf (head x) (x .table) c)) (top (head x))
-
-abbrev pub inRow : Kind → Bool
-inRow absent = false
-inRow sparse = true
-inRow dense = false
-
-abbrev pub inPage : Kind → Bool
-inPage absent = false
-inPage sparse = false
-inPage dense = true
+unfoldable pub membersOf : Mem → ℕ → ℕ
+membersOf x c = count (offsets (head x) x (placeOf (head x) (x .table) c)) (top (head x))

@@ -2,10 +2,10 @@
 mod input;
 mod output;
 
-use cuts::plan::Planning;
+use document::plan::Planning;
 use cuts::planning;
 use input::Input;
-use layout::answer::Outcome;
+use document::answer::Outcome;
 use layout::setup;
 use ranked::form;
 

@@ -5,14 +5,15 @@ use Prim.Native.Nat.{ℕ, _+_, _-_, _*_}
 use lib.ListN.{take, drop, take-append-drop}
 use lib.Seq.{drop-drop}
 use Rattle.dense.specs.Bits.{withRow}
-use Rattle.layout.specs.Sizes.{top, wide}
+use Rattle.document.specs.Sizes.{top}
+use Rattle.layout.specs.Sizes.{wide}
 use Rattle.layout.specs.Places.{rowPart, pagePart}
-use Rattle.layout.specs.declared.head.Header.{Header}
+use Rattle.document.specs.declared.sizes.Sizes.{Sizes}
 use Rattle.layout.specs.Writes.{putPart}
 use Rattle.steps.proofs.Lent.{span, put-lent}
 
 -- page p with the members of row r
-pub fill-put : (pages rows : List ℕ) (h : Header) (r p l i j k : ℕ) → i ≡ r * h .m → j ≡ p * wide h → k ≡ wide h → (ys : List ℕ) → ys ≡ withRow (take (j + k - j) (drop j pages)) 0 (take (i + h .m - i) (drop i rows)) (top h) l → take j pages ++ (ys ++ drop (j + k - j) (drop j pages)) ≡ putPart pages (p * wide h) (wide h) (withRow (pagePart h pages p) 0 (rowPart h rows r) (top h) l)
+pub fill-put : (pages rows : List ℕ) (h : Sizes) (r p l i j k : ℕ) → i ≡ r * h .m → j ≡ p * wide h → k ≡ wide h → (ys : List ℕ) → ys ≡ withRow (take (j + k - j) (drop j pages)) 0 (take (i + h .m - i) (drop i rows)) (top h) l → take j pages ++ (ys ++ drop (j + k - j) (drop j pages)) ≡ putPart pages (p * wide h) (wide h) (withRow (pagePart h pages p) 0 (rowPart h rows r) (top h) l)
 fill-put pages rows h r p l i j k ei ej ek ys f =
     put-lent pages j k (p * wide h) (wide h) ej ek (λ (w : List ℕ). withRow w 0 (take (i + h .m - i) (drop i rows)) (top h) l) ys f
     ∙ ap (λ (row : List ℕ). putPart pages (p * wide h) (wide h) (withRow (pagePart h pages p) 0 row (top h) l))

@@ -18,34 +18,35 @@ use Rattle.numbers.specs.declared.Natural.the-variants as natural
 use Rattle.sums.specs.Ids.{count}
 use Rattle.sums.proofs.Counts.{count-next}
 use Rattle.layout.specs.Mem.{Mem, mem}
-use Rattle.layout.specs.Sizes.{InRange, top, head, modeAt, overCount, headerAt}
-use Rattle.layout.specs.Places.{isDense}
+use Rattle.document.specs.Sizes.{InRange, top}
+use Rattle.layout.specs.Sizes.{head, modeAt, overCount, headerAt}
+use Rattle.layout.specs.Places.{hasPage}
 use Rattle.layout.specs.Entries.{entries, chunkAt, placeAt}
 use Rattle.layout.specs.Short.{overPlace}
 use Rattle.layout.specs.Tests.{Walked, walked}
 use Rattle.layout.specs.SetUp.{Did, did}
 use Rattle.layout.specs.Follows.{Follows}
-use Rattle.layout.specs.declared.head.Header.{Header}
+use Rattle.document.specs.declared.sizes.Sizes.{Sizes}
 use Rattle.layout.specs.declared.place.Place.{Place}
-use Rattle.layout.specs.declared.answer.Outcome.{Outcome}
-use Rattle.layout.specs.declared.answer.Outcome.the-variants.{Done, Refused}
+use Rattle.document.specs.declared.answer.Outcome.{Outcome}
+use Rattle.document.specs.declared.answer.Outcome.the-variants.{Done, Refused}
 use Rattle.layout.proofs.Tests.{walked-of}
 use Rattle.calls.specs.Prepare.{work, densedTo, overNeeded, pagesNeeded, prepareId, prepareBy}
-use Rattle.calls.specs.Promise.{Prepares}
+use Rattle.calls.proofs.Outcomes.{Prepares}
 use Rattle.calls.proofs.Preparing.{prepare-says}
-use Rattle.prepare.specs.Plans.{planTo, planId, planBy}
+use Rattle.prepare.specs.Plans.{planTo, planId, planPrepare}
 use Rattle.prepare.specs.Ready.{Sound}
 use Rattle.prepare.specs.declared.plan.Plan.{Plan}
 use Rattle.prepare.specs.declared.plan.Plan.the-variants.{Refuse, Nothing, Make}
 
 -- ---- what is needed
 
-module _ (h : Header) (t : List ℕ) (c : ℕ) where
+module _ (h : Sizes) (t : List ℕ) (c : ℕ) where
   abbrev pub densePast : ℕ → Bool
-  densePast = λ (e : ℕ). ltb c (chunkAt h t e) && isDense (placeAt h t e)
+  densePast = λ (e : ℕ). ltb c (chunkAt h t e) && hasPage (placeAt h t e)
 
-  pub past-is : (e i : ℕ) (q : Place) (b : Bool) → i ≡ chunkAt h t e → q ≡ placeAt h t e → b ≡ isDense q → (ltb c i && b) ≡ densePast e
-  past-is e i q b ei eq eb = ap₂ _&&_ (ap (ltb c) ei) (eb ∙ ap isDense eq)
+  pub past-is : (e i : ℕ) (q : Place) (b : Bool) → i ≡ chunkAt h t e → q ≡ placeAt h t e → b ≡ hasPage q → (ltb c i && b) ≡ densePast e
+  past-is e i q b ei eq eb = ap₂ _&&_ (ap (ltb c) ei) (eb ∙ ap hasPage eq)
 
   pub past-more : (e k : ℕ) (b : Bool) → k ≡ count densePast e → b ≡ densePast e → k + boolByte b ≡ count densePast (e + 1)
   past-more e k b ek eb = ap₂ _+_ ek (ap boolByte eb) ∙ sym (count-next densePast e)
@@ -82,7 +83,7 @@ module _ (h : Header) (t : List ℕ) (c : ℕ) where
 
 -- ---- 3, then 4
 
-abbrev by-chunk : Header → Mem → Natural → Plan
+abbrev by-chunk : Sizes → Mem → Natural → Plan
 by-chunk h x (natural.At c) = planTo h (x .table) c
 by-chunk h x natural.Negative = Nothing
 
@@ -90,19 +91,19 @@ module _ (x : Mem) (z : ℤ) (a : Bool) (ea : a ≡ walked x) where
   gate : Bool → Bool → Plan
   gate i j = cond i (cond j (Refuse 4) (planId x z)) (Refuse 3)
 
-  pub plan-three : a ≡ false → Refuse 3 ≡ planBy x z
-  unfolding planBy gate
+  pub plan-three : a ≡ false → Refuse 3 ≡ planPrepare x z
+  unfolding planPrepare gate
   plan-three e = ap (λ (i : Bool). gate i (eqb (modeAt (x .table)) 1)) (sym e ∙ ea)
 
   module _ (ok : a ≡ true) (m : ℕ) (em : m ≡ modeAt (x .table)) where
-    pub plan-four : m ≡ 1 → Refuse 4 ≡ planBy x z
-    unfolding planBy gate
+    pub plan-four : m ≡ 1 → Refuse 4 ≡ planPrepare x z
+    unfolding planPrepare gate
     plan-four e = ap₂ gate (sym ok ∙ ea) (sym (ap (λ (i : ℕ). eqb i 1) (sym em) ∙ eq-eqb m 1 e))
 
     pub is-walked : Walked x (head x)
     is-walked = walked-of x .sound (sym ea ∙ ok)
 
-    module _ (h : Header) (eh : h ≡ head x) where
+    module _ (h : Sizes) (eh : h ≡ head x) where
       pub plan-range : InRange h × (overCount (x .table) ≤ 65536)
       plan-range =
           let W = is-walked in
@@ -111,21 +112,21 @@ module _ (x : Mem) (z : ℤ) (a : Bool) (ea : a ≡ walked x) where
           (subst InRange (sym eh) (W .sizes), omega arith)
 
       module _ (open-set : m ≡ 1 → ⊥) where
-        plan-open : planId x z ≡ planBy x z
-        unfolding planBy gate
+        plan-open : planId x z ≡ planPrepare x z
+        unfolding planPrepare gate
         plan-open = ap₂ gate (sym ok ∙ ea) (sym (ap (λ (i : ℕ). eqb i 1) (sym em) ∙ ne-eqb m 1 open-set))
 
         chunk-plan : (w : ℤ) → by-chunk h x (chunkOf (h .s) w) ≡ planId x w
-        chunk-plan (pos n) = ap (λ (k : Header). planTo k (x .table) (n / top k)) eh
+        chunk-plan (pos n) = ap (λ (k : Sizes). planTo k (x .table) (n / top k)) eh
         chunk-plan (negsuc n) = refl
 
-        plan-natural : (q : Natural) → q ≡ chunkOf (h .s) z → by-chunk h x q ≡ planBy x z
+        plan-natural : (q : Natural) → q ≡ chunkOf (h .s) z → by-chunk h x q ≡ planPrepare x z
         plan-natural q e = ap (by-chunk h x) e ∙ chunk-plan z ∙ plan-open
 
-        pub plan-nothing : natural.Negative ≡ chunkOf (h .s) z → Nothing ≡ planBy x z
+        pub plan-nothing : natural.Negative ≡ chunkOf (h .s) z → Nothing ≡ planPrepare x z
         plan-nothing e = plan-natural natural.Negative e
 
-        pub plan-chunk : (c : ℕ) → natural.At c ≡ chunkOf (h .s) z → planTo h (x .table) c ≡ planBy x z
+        pub plan-chunk : (c : ℕ) → natural.At c ≡ chunkOf (h .s) z → planTo h (x .table) c ≡ planPrepare x z
         plan-chunk c e = plan-natural (natural.At c) e
 
 -- a chunk id is far below 2^62
@@ -144,8 +145,8 @@ acted x (Refuse n) = did (Refused n) x
 acted x Nothing = did Done x
 acted x (Make c) = did Done (densedTo (head x) (work x 0) (c + 1) .mem)
 
-acted-by : (x : Mem) (z : ℤ) → acted x (planBy x z) ≡ prepareBy x z
-unfolding planBy planTo prepareBy
+acted-by : (x : Mem) (z : ℤ) → acted x (planPrepare x z) ≡ prepareBy x z
+unfolding planPrepare planTo prepareBy
 acted-by x z = go (walked x) (eqb (modeAt (x .table)) 1) z
   where
     pick : (a b : Bool) (c : ℕ) → acted x (cond a (Refuse 6) (cond b (Refuse 8) (Make c))) ≡ cond a (did (Refused 6) x) (cond b (did (Refused 8) x) (did Done (densedTo (head x) (work x 0) (c + 1) .mem)))
@@ -160,7 +161,7 @@ acted-by x z = go (walked x) (eqb (modeAt (x .table)) 1) z
     go true false (negsuc n) = refl
 
 -- a plan that was made, carried out
-pub plan-acted : (x : Mem) (z : ℤ) (q r : Plan) → q ≡ planBy x z → q ≡ r → acted x r ≡ prepareBy x z
+pub plan-acted : (x : Mem) (z : ℤ) (q r : Plan) → q ≡ planPrepare x z → q ≡ r → acted x r ≡ prepareBy x z
 plan-acted x z q r e f = ap (acted x) (sym f ∙ e) ∙ acted-by x z
 
 -- the same with what a customer reads
@@ -206,8 +207,8 @@ sound x W b l =
       places = W .places;
     }
 
-pub plan-made : (x : Mem) (z : ℤ) (q : Plan) (c : ℕ) → q ≡ planBy x z → q ≡ Make c → Sound (x .pages) (x .rows) (x .table) × (overNeeded (headerAt (x .table)) (x .table) c ≤ headerAt (x .table) .v)
-unfolding planBy
+pub plan-made : (x : Mem) (z : ℤ) (q : Plan) (c : ℕ) → q ≡ planPrepare x z → q ≡ Make c → Sound (x .pages) (x .rows) (x .table) × (overNeeded (headerAt (x .table)) (x .table) c ≤ headerAt (x .table) .v)
+unfolding planPrepare
 plan-made x z q c e f =
     let g = gate-made (walked x) (eqb (modeAt (x .table)) 1) (planId x z) c (sym e ∙ f) in
     (sound x (walked-of x .sound (g .0)), id-made x z c (g .1))

@@ -15,7 +15,7 @@ use Rattle.sparse.specs.Row.{Rising}
 use Rattle.layout.specs.Sizes.{overAt, overCount}
 use Rattle.layout.specs.Entries.{entries, chunkAt}
 use Rattle.layout.specs.Short.{overPlace}
-use Rattle.layout.specs.declared.head.Header.{Header}
+use Rattle.document.specs.declared.sizes.Sizes.{Sizes}
 use Rattle.layout_laws.proofs.Keys.{Cut}
 use Rattle.layout_laws.proofs.Halving.{lower-first}
 use Rattle.layout_laws.proofs.Short.{over-rising}
@@ -72,10 +72,10 @@ past-rest f N K c l low =
 
 -- ---- entries of chunks past c
 
-abbrev pub above : Header → List ℕ → ℕ → ℕ
+abbrev pub above : Sizes → List ℕ → ℕ → ℕ
 above h t c = count (λ (e : ℕ). ltb c (chunkAt h t e)) (entries h t)
 
-module _ (h : Header) (t : List ℕ) (o : Ordered h t) (c : ℕ) where
+module _ (h : Sizes) (t : List ℕ) (o : Ordered h t) (c : ℕ) where
   -- what was judged
   pub above-fits : overCount t ≤ h .v → overNeeded h t c ≤ h .v → above h t c + (c + 1) ≤ h .d + h .v
   unfolding overNeeded

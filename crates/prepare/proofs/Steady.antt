@@ -12,13 +12,14 @@ use borrow.Author.Tests.{ltb-true}
 use Rattle.dense.specs.Bits.{withRow}
 use Rattle.dense.proofs.Bits.{length-row}
 use Rattle.layout.specs.Mem.{Mem, mem}
-use Rattle.layout.specs.Sizes.{top, wide, blocksOf, lastChunk, head, headerAt}
+use Rattle.document.specs.Sizes.{top, lastChunk}
+use Rattle.layout.specs.Sizes.{wide, blocksOf, head, headerAt}
 use Rattle.layout.specs.Places.{rowPart, pagePart, pageOwner}
 use Rattle.layout.specs.Entries.{wordOf, placeOf}
 use Rattle.layout.specs.Short.{wordIn}
 use Rattle.layout.specs.Follows.{Owned}
 use Rattle.layout.specs.Tests.{Walked}
-use Rattle.layout.specs.declared.head.Header.{Header}
+use Rattle.document.specs.declared.sizes.Sizes.{Sizes}
 use Rattle.layout.specs.declared.place.Place.{Place}
 use Rattle.layout.specs.declared.place.Place.the-variants.{Absent, Sparse, Dense}
 use Rattle.layout.specs.declared.find.Word.{Word}
@@ -36,7 +37,7 @@ use Rattle.prepare.proofs.Spares.{above, above-fits, above-kept, spare-
 use Rattle.prepare.proofs.Walks.{paged-wrote, paged-walked}
 
 -- memory that passed the walk, with entries for chunks 0 to c
-pub record Steady (h : Header) (c : ℕ) (x : Mem) : Type 0 where
+pub record Steady (h : Sizes) (c : ℕ) (x : Mem) : Type 0 where
   pub walked : Walked x h
   pub header : head x ≡ h
   pub spare : above h (x .table) c + (c + 1) ≤ h .d + h .v
@@ -45,14 +46,14 @@ pub steady-none : (x : Mem) (c : ℕ) → Walked x (head x) → overNeeded (head
 steady-none x c W need = record { walked = W; header = refl; spare = above-fits (head x) (x .table) (walked-ordered W) c (W .over-fits) need }
 
 -- the word that the turn of chunk n finds
-word-is : (h : Header) (c : ℕ) (x : Mem) → Steady h c x → (n : ℕ) → wordIn (x .table) n ≡ word.Is (wordOf h (x .table) n)
+word-is : (h : Sizes) (c : ℕ) (x : Mem) → Steady h c x → (n : ℕ) → wordIn (x .table) n ≡ word.Is (wordOf h (x .table) n)
 word-is h c x s n =
-    subst (λ (g : Header). wordIn (x .table) n ≡ word.Is (wordOf g (x .table) n)) (s .header)
+    subst (λ (g : Sizes). wordIn (x .table) n ≡ word.Is (wordOf g (x .table) n)) (s .header)
     (word-in-is x (subst (Walked x) (sym (s .header)) (s .walked)) n)
 
 -- ---- one turn
 
-module _ (h : Header) (c : ℕ) (u : Work) (s : Steady h c (u .mem)) (n : ℕ) (le : n ≤ c) where
+module _ (h : Sizes) (c : ℕ) (u : Work) (s : Steady h c (u .mem)) (n : ℕ) (le : n ≤ c) where
   abbrev x : Mem
   x = u .mem
 
@@ -102,18 +103,18 @@ module _ (h : Header) (c : ℕ) (u : Work) (s : Steady h c (u .mem)) (n : ℕ) (
 
 -- ---- all turns
 
-pub steady : (h : Header) (c : ℕ) (x : Mem) → Steady h c x → (n : ℕ) → n ≤ c + 1 → Steady h c (densedTo h (work x 0) n .mem)
+pub steady : (h : Sizes) (c : ℕ) (x : Mem) → Steady h c x → (n : ℕ) → n ≤ c + 1 → Steady h c (densedTo h (work x 0) n .mem)
 unfolding densedTo
 steady h c x s zero l = s
 steady h c x s (suc n) l = steady-more h c (densedTo h (work x 0) n) (steady h c x s n (omega arith)) n (omega arith)
 
 -- what a turn asks for
-row-inside : (h : Header) (t : List ℕ) (c : ℕ) (q : Place) → Owned h t c q → RowInside h q
+row-inside : (h : Sizes) (t : List ℕ) (c : ℕ) (q : Place) → Owned h t c q → RowInside h q
 row-inside h t c Absent o = tt
 row-inside h t c (Sparse r l) o = (o .there, o .short)
 row-inside h t c (Dense p) o = tt
 
-pub turnable : (h : Header) (c : ℕ) (x : Mem) → Steady h c x → (n : ℕ) → n ≤ c → Turnable h (x .pages) (x .rows) (x .table) n
+pub turnable : (h : Sizes) (c : ℕ) (x : Mem) → Steady h c x → (n : ℕ) → n ≤ c → Turnable h (x .pages) (x .rows) (x .table) n
 turnable h c x s n l =
     let W = s .walked in
     let v = W .sizes .v-high in
@@ -132,7 +133,7 @@ turnable h c x s n l =
 -- ---- the loop, whatever the block counts are
 
 -- after the turns of chunks 0 to i - 1
-pub record Sofar (h : Header) (ps₀ rs₀ t₀ : List ℕ) (c : ℕ) (ps rs t : List ℕ) (next i : ℕ) : Type 0 where
+pub record Sofar (h : Sizes) (ps₀ rs₀ t₀ : List ℕ) (c : ℕ) (ps rs t : List ℕ) (next i : ℕ) : Type 0 where
   pub header : h ≡ headerAt t₀
   pub turns : i ≤ c + 1
   pub small : next ≤ 65536
@@ -141,7 +142,7 @@ pub record Sofar (h : Header) (ps₀ rs₀ t₀ : List ℕ) (c : ℕ) (ps rs t :
   pub table-long : length t ≡ length t₀
   pub same : (b : List ℕ) → work (mem ps rs b t) next ≡ densedTo h (work (mem ps₀ rs₀ b t₀) 0) i
 
-module _ (h : Header) (ps₀ rs₀ t₀ : List ℕ) (c : ℕ) where
+module _ (h : Sizes) (ps₀ rs₀ t₀ : List ℕ) (c : ℕ) where
   pub sofar-none : h ≡ headerAt t₀ → Sofar h ps₀ rs₀ t₀ c ps₀ rs₀ t₀ 0 0
   unfolding densedTo
   sofar-none e = record { header = e; turns = omega arith; small = omega arith; pages-long = refl; rows-long = refl; table-long = refl; same = λ b. refl }
@@ -152,7 +153,7 @@ module _ (h : Header) (ps₀ rs₀ t₀ : List ℕ) (c : ℕ) where
         let b : List ℕ = replicate {A = ℕ} (headerAt t₀ .p * blocksOf (headerAt t₀)) 0 in
         let x = mem ps₀ rs₀ b t₀ in
         let n : length b ≡ headerAt t₀ .p * blocksOf (headerAt t₀) = length-replicate (headerAt t₀ .p * blocksOf (headerAt t₀)) _ in
-        let first : Steady h c x = subst (λ (g : Header). Steady g c x) (sym (s .header)) (steady-none x c (ok b (omega arith)) need) in
+        let first : Steady h c x = subst (λ (g : Sizes). Steady g c x) (sym (s .header)) (steady-none x c (ok b (omega arith)) need) in
         turnable h c (mem ps rs b t) (subst (λ (w : Work). Steady h c (w .mem)) (sym (s .same b)) (steady h c x first i (s .turns))) i l
 
     pub sofar-more : i ≤ c → (ps′ rs′ t′ : List ℕ) (k : ℕ) → length ps′ ≡ length ps → length rs′ ≡ length rs → length t′ ≡ length t
@@ -171,4 +172,4 @@ module _ (h : Header) (ps₀ rs₀ t₀ : List ℕ) (c : ℕ) where
     pub sofar-end : c < i → (b : List ℕ) → mem ps rs b t ≡ densedTo (headerAt t₀) (work (mem ps₀ rs₀ b t₀) 0) (c + 1) .mem
     sofar-end l b =
         let e : i ≡ c + 1 = let m = s .turns in omega arith in
-        ap (λ (w : Work). w .mem) (s .same b) ∙ ap₂ (λ (g : Header) (j : ℕ). densedTo g (work (mem ps₀ rs₀ b t₀) 0) j .mem) (s .header) e
+        ap (λ (w : Work). w .mem) (s .same b) ∙ ap₂ (λ (g : Sizes) (j : ℕ). densedTo g (work (mem ps₀ rs₀ b t₀) 0) j .mem) (s .header) e

@@ -8,9 +8,10 @@ use lib.ListN.{replicate}
 use borrow.Author.Tests.{lt-ltb, le-ltb}
 use Rattle.dense.specs.Bits.{withRow}
 use Rattle.layout.specs.Mem.{Mem, mem}
-use Rattle.layout.specs.Sizes.{top, wide}
+use Rattle.document.specs.Sizes.{top}
+use Rattle.layout.specs.Sizes.{wide}
 use Rattle.layout.specs.Places.{encoded, decoded, rowPart, pagePart}
-use Rattle.layout.specs.declared.head.Header.{Header}
+use Rattle.document.specs.declared.sizes.Sizes.{Sizes}
 use Rattle.layout.specs.declared.place.Place.{Place}
 use Rattle.layout.specs.declared.place.Place.the-variants.{Absent, Sparse, Dense}
 use Rattle.layout.specs.declared.find.Word.{Word}
@@ -23,7 +24,7 @@ use Rattle.prepare.proofs.Fills.{put-same}
 
 -- ---- a page is found, or none
 
-module _ (h : Header) (x : Mem) (next c : ℕ) (q : Place) (p f : ℕ) (e : p ≡ f) where
+module _ (h : Sizes) (x : Mem) (next c : ℕ) (q : Place) (p f : ℕ) (e : p ≡ f) where
   into : Bool → ℕ → Work
   into b i = cond b (work (intoPage h x c i q) (i + 1)) (work x next)
 
@@ -37,7 +38,7 @@ module _ (h : Header) (x : Mem) (next c : ℕ) (q : Place) (p f : ℕ) (e : p �
 
 -- ---- what is written
 
-module _ (h : Header) (c p : ℕ) (ps rs bs t : List ℕ) where
+module _ (h : Sizes) (c p : ℕ) (ps rs bs t : List ℕ) where
   pub absent-page : (t′ : List ℕ) → t′ ≡ putPageOwner h (putWord h t c (encoded (Dense p))) p (c + 1) → mem ps rs bs t′ ≡ intoPage h (mem ps rs bs t) c p Absent
   unfolding paged
   absent-page t′ e = ap₂ (λ (u v : List ℕ). mem u rs bs v) (sym (put-same ps (p * wide h) (wide h))) e
@@ -52,12 +53,12 @@ module _ (h : Header) (c p : ℕ) (ps rs bs t : List ℕ) where
 
 -- ---- by the word that is found
 
-module _ (h : Header) (v : Work) (c : ℕ) (r : Word) where
+module _ (h : Sizes) (v : Work) (c : ℕ) (r : Word) where
   pub word-bad : r ≡ word.Bad → v ≡ densedWord h v c r
   word-bad e = ap (densedWord h v c) (sym e)
 
   pub word-place : (w : ℕ) (p q : Place) → r ≡ word.Is w → p ≡ decoded w → p ≡ q → densed h v c q ≡ densedWord h v c r
   word-place w p q e f g = ap (densed h v c) (sym g ∙ f) ∙ ap (densedWord h v c) (sym e)
 
-pub found-inside : (h : Header) (r : Word) (w : ℕ) (p q : Place) → r ≡ word.Is w → p ≡ decoded w → p ≡ q → WordInside h r → RowInside h q
+pub found-inside : (h : Sizes) (r : Word) (w : ℕ) (p q : Place) → r ≡ word.Is w → p ≡ decoded w → p ≡ q → WordInside h r → RowInside h q
 found-inside h r w p q e f g i = subst (RowInside h) (sym f ∙ g) (subst (WordInside h) e i)

@@ -8,12 +8,13 @@ use lib.ListN.{length, set, length-replicate}
 use lib.Seq.{getD-set-same, getD-set-other}
 use Rattle.sparse.specs.Row.{Rising}
 use Rattle.layout.specs.Mem.{Mem}
-use Rattle.layout.specs.Sizes.{wide, lastChunk, rowOwnersAt, pageOwnersAt, overCount}
+use Rattle.document.specs.Sizes.{lastChunk}
+use Rattle.layout.specs.Sizes.{wide, rowOwnersAt, pageOwnersAt, overCount}
 use Rattle.layout.specs.Places.{decoded, encoded, rowOwner, pageOwner}
 use Rattle.layout.specs.Entries.{entries, chunkAt, wordAt, placeAt, placeOf}
 use Rattle.layout.specs.Follows.{Key, OwnsRow, Owned}
 use Rattle.layout.specs.Tests.{Walked}
-use Rattle.layout.specs.declared.head.Header.{Header}
+use Rattle.document.specs.declared.sizes.Sizes.{Sizes}
 use Rattle.layout.specs.declared.place.Place.{Place}
 use Rattle.layout.specs.declared.place.Place.the-variants.{Absent, Sparse, Dense}
 use Rattle.layout.proofs.Places.{decoded-encoded-dense}
@@ -26,7 +27,7 @@ use Rattle.steps.proofs.Puts.{put-rising, put-all}
 use Rattle.steps.proofs.Table.{runOf, Wrote, Worded, owner-set}
 use Rattle.steps.proofs.Words.{put-word}
 
-module _ (h : Header) (x : Mem) (W : Walked x h) (n : ℕ) (far : n < lastChunk h)
+module _ (h : Sizes) (x : Mem) (W : Walked x h) (n : ℕ) (far : n < lastChunk h)
     (spare : ((e : ℕ) → e < entries h (x .table) → chunkAt h (x .table) e ≢ n) → overCount (x .table) < h .v)
     (old : Place) (is : placeOf h (x .table) n ≡ old) (p : ℕ) (there : p < h .p) (free : pageOwner h (x .table) p ≡ 0) (page : List ℕ) (long : length page ≡ wide h) where
   abbrev t : List ℕ

@@ -5,15 +5,16 @@ use mathlib.Core.Bool.{cond}
 use lib.IntN.{ℤ, pos, negsuc}
 use lib.Dec.{ltb, eqb}
 use Rattle.layout.specs.Mem.{Mem}
-use Rattle.layout.specs.Sizes.{top, head, modeAt}
+use Rattle.document.specs.Sizes.{top}
+use Rattle.layout.specs.Sizes.{head, modeAt}
 use Rattle.layout.specs.Tests.{walked}
-use Rattle.layout.specs.declared.head.Header.{Header}
+use Rattle.document.specs.declared.sizes.Sizes.{Sizes}
 use Rattle.calls.specs.Prepare.{overNeeded, pagesNeeded}
 use Rattle.prepare.specs.declared.plan.Plan.{Plan}
 use Rattle.prepare.specs.declared.plan.Plan.the-variants.{Refuse, Nothing, Make}
 
 -- chunks 0 to c: 6 before 8
-unfoldable pub planTo : Header → List ℕ → ℕ → Plan
+unfoldable pub planTo : Sizes → List ℕ → ℕ → Plan
 planTo h t c = cond (ltb (h .v) (overNeeded h t c)) (Refuse 6) (cond (ltb (h .p) (pagesNeeded h t c)) (Refuse 8) (Make c))
 
 abbrev pub planId : Mem → ℤ → Plan
@@ -21,5 +22,5 @@ planId x (pos n) = planTo (head x) (x .table) (n / top (head x))
 planId x (negsuc n) = Nothing
 
 -- 3, then 4, then the maximum
-unfoldable pub planBy : Mem → ℤ → Plan
-planBy x z = cond (walked x) (cond (eqb (modeAt (x .table)) 1) (Refuse 4) (planId x z)) (Refuse 3)
+unfoldable pub planPrepare : Mem → ℤ → Plan
+planPrepare x z = cond (walked x) (cond (eqb (modeAt (x .table)) 1) (Refuse 4) (planId x z)) (Refuse 3)

@@ -3,11 +3,12 @@ use mathlib.Core.List.{List}
 use Prim.Native.Nat.{ℕ, _*_, _^_, _≤_, _<_}
 use lib.ListN.{length}
 use Rattle.layout.specs.Mem.{mem}
-use Rattle.layout.specs.Sizes.{InRange, wide, blocksOf, headerAt, overCount}
+use Rattle.document.specs.Sizes.{InRange}
+use Rattle.layout.specs.Sizes.{wide, blocksOf, headerAt, overCount}
 use Rattle.layout.specs.Places.{decoded}
 use Rattle.layout.specs.Short.{wordIn}
 use Rattle.layout.specs.Tests.{Walked}
-use Rattle.layout.specs.declared.head.Header.{Header}
+use Rattle.document.specs.declared.sizes.Sizes.{Sizes}
 use Rattle.layout.specs.declared.place.Place.{Place}
 use Rattle.layout.specs.declared.place.Place.the-variants.{Absent, Sparse, Dense}
 use Rattle.layout.specs.declared.find.Word.{Word}
@@ -18,7 +19,7 @@ abbrev pub Sound : List ℕ → List ℕ → List ℕ → Type 0
 Sound pages rows t = (b : List ℕ) → headerAt t .p * blocksOf (headerAt t) ≤ length b → Walked (mem pages rows b t) (headerAt t)
 
 -- a row r of l members that goes into a page: pools of these lengths have room for their slots
-pub record Fillable (h : Header) (pages rows r l : ℕ) : Type 0 where
+pub record Fillable (h : Sizes) (pages rows r l : ℕ) : Type 0 where
   pub sizes : InRange h
   pub in-pages : h .p * wide h ≤ pages
   pub in-rows : h .r * h .m ≤ rows
@@ -26,17 +27,17 @@ pub record Fillable (h : Header) (pages rows r l : ℕ) : Type 0 where
   pub members : l ≤ h .m
 
 -- a place that is a row: one of the pool's, with as many members as fit
-abbrev pub RowInside : Header → Place → Type 0
+abbrev pub RowInside : Sizes → Place → Type 0
 RowInside h Absent = Unit
 RowInside h (Sparse r l) = (r < h .r) × (l ≤ h .m)
 RowInside h (Dense p) = Unit
 
-abbrev pub WordInside : Header → Word → Type 0
+abbrev pub WordInside : Sizes → Word → Type 0
 WordInside h (word.Is w) = RowInside h (decoded w)
 WordInside h word.Bad = Unit
 
 -- chunk c's turn
-pub record Turnable (h : Header) (pages rows t : List ℕ) (c : ℕ) : Type 0 where
+pub record Turnable (h : Sizes) (pages rows t : List ℕ) (c : ℕ) : Type 0 where
   pub sizes : InRange h
   pub in-pages : h .p * wide h ≤ length pages
   pub in-rows : h .r * h .m ≤ length rows

@@ -7,9 +7,9 @@ ghost use Rattle.layout.specs.Mem.{memOf};
 ghost use Rattle.layout.specs.SetUp.{did};
 ghost use Rattle.layout.specs.Follows.{Follows};
 ghost use Rattle.calls.specs.Prepare.{prepareBy};
-ghost use Rattle.calls.specs.Promise.{Prepares};
+ghost use Rattle.calls.proofs.Outcomes.{Prepares};
 use crate::plan::Plan;
-use layout::answer::Outcome;
+use document::answer::Outcome;
 
 // Chunks 0 to the maximum's become dense, with the members that they have; or 3, 4, 6, 8 and nothing is changed.
 pub fn pre_allocate(

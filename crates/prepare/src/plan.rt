@@ -4,15 +4,16 @@ ghost use mathlib.Core.Bool.{_&&_};
 ghost use Prim.Native.Nat.{_^_, _≤_, _<_};
 ghost use lib.Dec.{ltb};
 ghost use Rattle.layout.specs.Mem.{memOf};
-ghost use Rattle.layout.specs.Sizes.{InRange, overCount};
-ghost use Rattle.layout.specs.Places.{isDense};
+ghost use Rattle.document.specs.Sizes.{InRange};
+ghost use Rattle.layout.specs.Sizes.{overCount};
+ghost use Rattle.layout.specs.Places.{hasPage};
 ghost use Rattle.layout.specs.Entries.{chunkAt, placeAt};
 ghost use Rattle.calls.specs.Prepare.{overNeeded, pagesNeeded};
-ghost use Rattle.prepare.specs.Plans.{planTo, planBy};
+ghost use Rattle.prepare.specs.Plans.{planTo, planPrepare};
 use layout::entry;
 use layout::find;
 use layout::head;
-use layout::head::Header;
+use document::sizes::Sizes;
 use layout::place::Place;
 use layout::walk;
 use numbers::Natural;
@@ -28,7 +29,7 @@ pub enum Plan {
 }
 
 pub fn is_dense(q: Place) -> bool
-    ensures { λ b. ⌜ b ≡ isDense q ⌝ }
+    ensures { λ b. ⌜ b ≡ hasPage q ⌝ }
 {
     match q {
         Place::Absent => false,
@@ -38,15 +39,15 @@ pub fn is_dense(q: Place) -> bool
 }
 
 // A chunk past c that has a page already.
-pub fn dense_past(table: &[u64], h: Header, c: u64, e: u64) -> bool
+pub fn dense_past(table: &[u64], h: Sizes, c: u64, e: u64) -> bool
     requires { ⌜ InRange h × (e ≤ 327680) ⌝ }
-    ensures { λ b. ⌜ b ≡ (ltb c (chunkAt h (now (table .entry)) e) && isDense (placeAt h (now (table .entry)) e)) ⌝ }
+    ensures { λ b. ⌜ b ≡ (ltb c (chunkAt h (now (table .entry)) e) && hasPage (placeAt h (now (table .entry)) e)) ⌝ }
 {
     (c < entry::chunk_at(table, h, e)) & is_dense(entry::place_at(table, h, e))
 }
 
 // Pages in use once chunks 0 to c are dense.
-pub fn pages_needed(table: &[u64], h: Header, c: u64) -> u64
+pub fn pages_needed(table: &[u64], h: Sizes, c: u64) -> u64
     requires { ⌜ InRange h × (overCount (now table) ≤ 65536) × (c < 2 ^ 62) ⌝ }
     ensures { λ n. ⌜ n ≡ pagesNeeded h (now (table .entry)) c ⌝ }
 {
@@ -61,7 +62,7 @@ pub fn pages_needed(table: &[u64], h: Header, c: u64) -> u64
 }
 
 // Overflow entries in use once chunks 0 to c are dense.
-pub fn over_needed(table: &[u64], h: Header, c: u64) -> u64
+pub fn over_needed(table: &[u64], h: Sizes, c: u64) -> u64
     requires { ⌜ InRange h × (overCount (now table) ≤ 65536) × (c < 2 ^ 62) ⌝ }
     ensures { λ n. ⌜ n ≡ overNeeded h (now (table .entry)) c ⌝ }
 {
@@ -71,7 +72,7 @@ pub fn over_needed(table: &[u64], h: Header, c: u64) -> u64
 }
 
 // 6 before 8, and no loop before 6: however large the maximum is, it is answered at once.
-pub fn judge(table: &[u64], h: Header, c: u64) -> Plan
+pub fn judge(table: &[u64], h: Sizes, c: u64) -> Plan
     requires { ⌜ InRange h × (overCount (now table) ≤ 65536) × (c < 2 ^ 62) ⌝ }
     ensures { λ q. ⌜ q ≡ planTo h (now (table .entry)) c ⌝ }
 {
@@ -86,7 +87,7 @@ pub fn judge(table: &[u64], h: Header, c: u64) -> Plan
 
 // 3 for a table that fails the walk, 4 for a ranked set, then the maximum.
 pub fn plan_for(pages: &[u64], rows: &[u32], blocks: &[u32], table: &[u64], max_id: i64) -> Plan
-    ensures { λ q. ⌜ q ≡ planBy (memOf (pages .entry) (rows .entry) (blocks .entry) (table .entry)) «max_id» ⌝ }
+    ensures { λ q. ⌜ q ≡ planPrepare (memOf (pages .entry) (rows .entry) (blocks .entry) (table .entry)) «max_id» ⌝ }
 {
     if !walk::walk(pages, rows, blocks, table) {
         return Plan::Refuse(3);

@@ -5,7 +5,8 @@ ghost use Prim.Native.Nat.{ℕ, _+_, _*_, _^_, _≤_, _<_};
 ghost use lib.ListN.{length};
 ghost use Rattle.dense.specs.Bits.{withRow};
 ghost use Rattle.layout.specs.Mem.{mem};
-ghost use Rattle.layout.specs.Sizes.{InRange, top, wide, headerAt, overCount};
+ghost use Rattle.document.specs.Sizes.{InRange, top};
+ghost use Rattle.layout.specs.Sizes.{wide, headerAt, overCount};
 ghost use Rattle.layout.specs.Places.{encoded, rowPart, pagePart};
 ghost use Rattle.layout.specs.Short.{wordIn};
 ghost use Rattle.layout.specs.declared.place.Place.the-variants.{Absent, Sparse, Dense};
@@ -15,7 +16,7 @@ ghost use Rattle.prepare.specs.Ready.{Sound, Fillable, Turnable};
 use layout::find;
 use layout::find::Word;
 use layout::head;
-use layout::head::Header;
+use document::sizes::Sizes;
 use layout::owners;
 use layout::place;
 use layout::place::Place;
@@ -24,7 +25,7 @@ use numbers::power;
 use steps::turn;
 
 // Page p gets the l members of row r.
-pub fn fill_page(pages: &mut [u64], rows: &[u32], h: Header, r: u64, l: usize, p: u64)
+pub fn fill_page(pages: &mut [u64], rows: &[u32], h: Sizes, r: u64, l: usize, p: u64)
     requires { ⌜ Fillable h (length (now pages)) (length (now rows)) r l × (p < h .p) ⌝ }
     ensures { λ _. ⌜ now (pages .exit) ≡ putPart (now (pages .entry)) (p * wide h) (wide h) (withRow (pagePart h (now (pages .entry)) p) 0 (rowPart h (now (rows .entry)) r) (top h) l) ⌝ }
 {
@@ -37,7 +38,7 @@ pub fn fill_page(pages: &mut [u64], rows: &[u32], h: Header, r: u64, l: usize, p
 }
 
 // Chunk c, absent until now, stands in page p.
-pub fn enter_page(table: &mut [u64], h: Header, c: u64, p: u64)
+pub fn enter_page(table: &mut [u64], h: Sizes, c: u64, p: u64)
     requires { ⌜ InRange h × (p < h .p) × (overCount (now table) ≤ 65536) × (c < 2 ^ 62) ⌝ }
     ensures { λ _. ⌜ now (table .exit) ≡ putPageOwner h (putWord h (now (table .entry)) c (encoded (Dense p))) p (c + 1) ⌝ }
 {
@@ -46,7 +47,7 @@ pub fn enter_page(table: &mut [u64], h: Header, c: u64, p: u64)
 }
 
 // An absent chunk: the page that it gets is left as it is. Pages are only taken, so that those before `next` stay taken.
-pub fn absent_to(table: &mut [u64], h: Header, c: u64, next: u64) -> u64
+pub fn absent_to(table: &mut [u64], h: Sizes, c: u64, next: u64) -> u64
     requires { ⌜ InRange h × (overCount (now table) ≤ 65536) × (c < 2 ^ 62) × (next ≤ 65536) ⌝ }
     ensures { λ k. ⌜ ((ps rs bs : List ℕ) → work (mem ps rs bs (now (table .exit))) k ≡ densed h (work (mem ps rs bs (now (table .entry))) next) c Absent) × (k ≤ 65536) ⌝ }
 {
@@ -63,7 +64,7 @@ pub fn sparse_to(
     pages: &mut [u64],
     rows: &mut [u32],
     table: &mut [u64],
-    h: Header,
+    h: Sizes,
     c: u64,
     r: u64,
     l: u64,
@@ -87,7 +88,7 @@ pub fn make_dense(
     pages: &mut [u64],
     rows: &mut [u32],
     table: &mut [u64],
-    h: Header,
+    h: Sizes,
     c: u64,
     next: u64,
 ) -> u64

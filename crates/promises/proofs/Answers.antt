@@ -4,16 +4,17 @@ use lib.IntN.{ℤ, pos, negsuc}
 use Rattle.numbers.specs.Ids.{chunkOf}
 use Rattle.layout.specs.Mem.{Mem}
 use Rattle.layout.specs.Sizes.{head}
-use Rattle.layout.specs.Meaning.{chunks}
+use Rattle.layout.specs.Meaning.{chunks, stateOf}
 use Rattle.layout.specs.Follows.{Follows}
 use Rattle.calls.specs.Reading.{chunkAnswer, chunkOfBy}
-use Rattle.calls.specs.Promise.{State, stateOf}
+use Rattle.document.specs.State.{State}
 use Rattle.calls.proofs.Readings.{get-is, chunk-of-is, chunk-of-none}
 use Rattle.calls.proofs.Counting.{len-is, empty-is, chunks-is, any-is}
 use Rattle.ranks.specs.Promise.{rankAnswer, rankIfAnswer, totalAnswer}
 use Rattle.ranks.proofs.Ranks.{rank-is, rank-if-is, total-is}
-use Rattle.promises.specs.Calls.{whether, many, maybe}
-use Rattle.promises.specs.Asks.{Ask, get, chunk-of, len, is-empty, has-any, chunk-count, rank-of, rank-if, total-count, chunksIn, reply, asked}
+use Rattle.document.specs.Calls.{whether, many, maybe, Ask, get, chunk-of, len, is-empty, has-any, chunk-count, rank-of, rank-if, total-count}
+use Rattle.document.specs.Answers.{chunksIn, reply}
+use Rattle.promises.specs.Asks.{asked}
 use Rattle.promises.specs.Stories.{Story, Kept, Reads}
 
 module _ {x : Mem} (w : Follows x) where

@@ -31,12 +31,12 @@ use Rattle.layout.specs.Writes.{putPart, added, putWord}
 use Rattle.steps.specs.Steps.{rowed, paged}
 use Rattle.calls.specs.Insert.{firstFree, planBy, insertBy, preparedPlan, preparedBy}
 use Rattle.calls.specs.Prepare.{densedTo, overNeeded, pagesNeeded, prepareBy}
-use Rattle.calls.specs.Counts.{goodAt, sizeAt, usedAt, partsOk, lenBy, hasAnyBy}
-use Rattle.calls.specs.Promise.{State}
+use Rattle.calls.specs.Counts.{goodAt, sizeBy, usedAt, partsOk, lenBy, hasAnyBy}
+use Rattle.document.specs.State.{State}
 use Rattle.ranks.specs.Form.{prefixed, blocked, blockedTo, toRanked, rankUpBy}
 use Rattle.layout.specs.Seat.{seatIn}
 use Rattle.ranks.specs.Rank.{rankBy, rankIfBy}
-use Rattle.promises.specs.Calls.{Call, insert, prepared, prepare, rank-up, leave, Fitting, Said}
+use Rattle.document.specs.Calls.{Call, insert, prepared, prepare, rank-up, leave, Fitting, Said}
 use Rattle.promises.specs.Asks.{asked}
 use Rattle.promises.specs.Stories.{Story, made, then, Told, reached}
 use Rattle.promises.specs.Cases.{tiny, blank, after, from, answers, heard, Case, calls, asks, kind, row, page, plain, Says, AllSay, memoryRows, plainRows, table}
@@ -128,7 +128,7 @@ all-say [] u = tt
 all-say (c ∷ cs) u = let b = both (proper c) (allProper cs) u in (computed-says c (b .0), all-say cs (b .1))
 
 table-computed : allComputed memoryRows ≡ memoryRows
-unfolding sumTo count allTo bit isSet bitsTo withBit withRow lowerIn lowerOf searchIn spotIn insertedAt inRange roomy keyIs placeIs headIs tableIs walked kinds wordOf beside chunkAt wordAt prefixAt membersAt lowerKey wordIn spotOf zeroed freshTable fresh setUpBy putPart added putWord rowed paged firstFree planBy insertBy preparedPlan preparedBy densedTo overNeeded pagesNeeded prepareBy goodAt sizeAt usedAt partsOk lenBy hasAnyBy prefixed blocked blockedTo toRanked rankUpBy seatIn rankBy rankIfBy
+unfolding sumTo count allTo bit isSet bitsTo withBit withRow lowerIn lowerOf searchIn spotIn insertedAt inRange roomy keyIs placeIs headIs tableIs walked kinds wordOf beside chunkAt wordAt prefixAt membersAt lowerKey wordIn spotOf zeroed freshTable fresh setUpBy putPart added putWord rowed paged firstFree planBy insertBy preparedPlan preparedBy densedTo overNeeded pagesNeeded prepareBy goodAt sizeBy usedAt partsOk lenBy hasAnyBy prefixed blocked blockedTo toRanked rankUpBy seatIn rankBy rankIfBy
 table-computed = refl
 
 table-proper : allProper memoryRows ≡ true

@@ -1,19 +1,22 @@
 -- Along every history memory follows the layout, stands for the set described, and gives document 01's answers. Assumes nothing.
 use mathlib.Core.Path.{_≡_, sym, ap, subst, _∙_, fun-ext}
 use Rattle.layout.specs.Mem.{Mem}
-use Rattle.layout.specs.Sizes.{InRange, RoomIn}
+use Rattle.document.specs.Sizes.{InRange}
+use Rattle.layout.specs.Sizes.{RoomIn}
 use Rattle.layout.specs.Follows.{Follows}
 use Rattle.layout.specs.SetUp.{Did, fresh, setUpBy}
-use Rattle.layout.specs.declared.head.Header.{Header}
+use Rattle.document.specs.declared.sizes.Sizes.{Sizes}
 use Rattle.layout_laws.proofs.Fresh.{head-fresh, fresh-follows, fresh-holds, fresh-kinds, fresh-open}
 use Rattle.layout_laws.proofs.SetUp.{set-up-done}
-use Rattle.calls.specs.Promise.{State, stateOf}
-use Rattle.promises.specs.Calls.{Call, Fitting, empty, answer, after}
+use Rattle.layout.specs.Meaning.{stateOf}
+use Rattle.document.specs.State.{State, empty}
+use Rattle.document.specs.Answers.{answer, after}
+use Rattle.document.specs.Calls.{Call, Fitting}
 use Rattle.promises.specs.Stories.{Story, made, then, Told, Kept}
 use Rattle.promises.proofs.Steps.{same-state, does}
 
 -- set-up leaves an empty open set
-module _ (h : Header) (x : Mem) (sizes : InRange h) (room : RoomIn h x) where
+module _ (h : Sizes) (x : Mem) (sizes : InRange h) (room : RoomIn h x) where
   made-fresh : setUpBy h x .after ≡ fresh h x
   made-fresh = ap (λ (d : Did). d .after) (set-up-done h x sizes room)
 

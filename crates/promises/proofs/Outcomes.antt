@@ -2,13 +2,14 @@
 use mathlib.Core.Path.{_≡_, refl, sym, ap, _∙_}
 use Rattle.layout.specs.Mem.{Mem}
 use Rattle.layout.specs.SetUp.{Did, did, setUpBy}
-use Rattle.layout.specs.declared.answer.Outcome.{Outcome}
-use Rattle.layout.specs.declared.answer.Truth.{Truth}
+use Rattle.document.specs.declared.answer.Outcome.{Outcome}
+use Rattle.document.specs.declared.answer.Truth.{Truth}
 use Rattle.calls.specs.Insert.{told, insertBy, preparedBy}
 use Rattle.calls.specs.Insert as inserting
 use Rattle.calls.specs.Prepare.{prepareBy}
 use Rattle.ranks.specs.Form.{rankUpBy, openBy}
-use Rattle.promises.specs.Calls.{insert, prepared, prepare, rank-up, leave, Said, whether, that, many, maybe, said, left}
+use Rattle.document.specs.Calls.{insert, prepared, prepare, rank-up, leave, Said, whether, that, many, maybe}
+use Rattle.promises.specs.Calls.{said, left}
 use Rattle.promises.specs.Asks.{asked}
 use Rattle.promises.specs.Outcomes.{Public, set-up, change, ask, TruthSo, OutcomeSo, Allowed}
 

@@ -12,11 +12,12 @@ use Rattle.sums.specs.Cuts.{size, parts, held, Interval}
 use Rattle.layout.specs.Mem.{Mem}
 use Rattle.layout.specs.Meaning.{holds, ranked}
 use Rattle.layout.specs.Follows.{Follows}
-use Rattle.cuts.specs.Plan.{planBy, planOf}
+use Rattle.document.specs.Plan.{planOf}
+use Rattle.cuts.specs.Plan.{planBy}
 use Rattle.cuts.specs.Promise.{planAnswer, Plans}
-use Rattle.cuts.specs.declared.plan.Planning.{Planning}
-use Rattle.cuts.specs.declared.plan.Planning.the-variants.{Made, Refused}
-use Rattle.cuts.specs.declared.plan.Ranks.the-variants as ranks
+use Rattle.document.specs.declared.plan.Planning.{Planning}
+use Rattle.document.specs.declared.plan.Planning.the-variants.{Made, Refused}
+use Rattle.document.specs.declared.plan.Ranks.the-variants as ranks
 use Rattle.cuts.proofs.Plans.{plan-says}
 use Rattle.cuts.proofs.Intervals.{plans-bounded, ids-part, span-part, ranks-part}
 use Rattle.cuts.proofs.Demand.{spans-planned}

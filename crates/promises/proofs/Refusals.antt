@@ -8,25 +8,27 @@ use lib.Dec.{ltb}
 use Rattle.sums.specs.Ids.{total, rank, RankIf, rankIf}
 use Rattle.numbers.specs.Ids.{chunkOf}
 use Rattle.layout.specs.Mem.{Mem}
-use Rattle.layout.specs.Sizes.{top}
-use Rattle.layout.specs.Meaning.{Kind, absent, sparse, dense}
-use Rattle.layout.specs.declared.head.Header.{Header}
-use Rattle.layout.specs.declared.answer.Outcome.{Outcome}
-use Rattle.layout.specs.declared.answer.Outcome.the-variants as outcome
-use Rattle.layout.specs.declared.answer.Truth.{Truth}
-use Rattle.layout.specs.declared.answer.Truth.the-variants as truth
-use Rattle.layout.specs.declared.answer.Amount.the-variants as amount
-use Rattle.layout.specs.declared.answer.Perhaps.the-variants as perhaps
+use Rattle.document.specs.Sizes.{top}
+use Rattle.document.specs.State.{Kind, absent, sparse, dense, State}
+use Rattle.document.specs.declared.sizes.Sizes.{Sizes}
+use Rattle.document.specs.declared.answer.Outcome.{Outcome}
+use Rattle.document.specs.declared.answer.Outcome.the-variants as outcome
+use Rattle.document.specs.declared.answer.Truth.{Truth}
+use Rattle.document.specs.declared.answer.Truth.the-variants as truth
+use Rattle.document.specs.declared.answer.Amount.the-variants as amount
+use Rattle.document.specs.declared.answer.Perhaps.the-variants as perhaps
 use Rattle.calls.specs.Insert.{insertBy, preparedBy}
 use Rattle.calls.specs.Prepare.{prepareBy}
 use Rattle.calls.specs.Reading.{chunkAnswer}
-use Rattle.calls.specs.Promise.{State, overflows, sparses, denses, verdict, grownMap, newAnswer, ifDense, preparedAnswer, denseMap, done, prepareAnswer}
+use Rattle.document.specs.Prepare.{denseMap, prepareAnswer}
+use Rattle.document.specs.Insert.{grownMap, newAnswer, ifDense, preparedAnswer, done}
+use Rattle.document.specs.Room.{overflows, sparses, denses, verdict}
 use Rattle.calls.proofs.Refusals.{insert-refused, prepared-refused, prepare-refused}
 use Rattle.ranks.specs.Form.{rankUpBy, openBy}
-use Rattle.ranks.specs.Promise.{perhapsRank}
+use Rattle.document.specs.Answers.{perhapsRank, answer, reply}
 use Rattle.ranks.proofs.Forms.{rank-up-refused, open-refused}
-use Rattle.promises.specs.Calls.{Call, insert, prepared, prepare, rank-up, leave, Said, whether, that, many, maybe, Refuses, answer, said, left}
-use Rattle.promises.specs.Asks.{Ask, get, chunk-of, len, is-empty, has-any, chunk-count, rank-of, rank-if, total-count, reply}
+use Rattle.document.specs.Calls.{Call, insert, prepared, prepare, rank-up, leave, Said, whether, that, many, maybe, Refuses, Ask, get, chunk-of, len, is-empty, has-any, chunk-count, rank-of, rank-if, total-count}
+use Rattle.promises.specs.Calls.{said, left}
 
 -- ---- nothing changes
 
@@ -55,7 +57,7 @@ either : {A : Type 0} (say : A → Said) (b : Bool) (s t : A) → Not3 (say s) �
 either say true s t p q = p
 either say false s t p q = q
 
-verdict-not : (h : Header) (k : ℕ → Kind) (a : Truth) → Not3 (whether a) → Not3 (whether (verdict h k a))
+verdict-not : (h : Sizes) (k : ℕ → Kind) (a : Truth) → Not3 (whether a) → Not3 (whether (verdict h k a))
 unfolding verdict
 verdict-not h k a p =
     let eight = cond (ltb (h .p) (denses h k)) (truth.Refused 8) a in

@@ -6,8 +6,8 @@ use Rattle.layout.specs.Sizes.{head}
 use Rattle.layout.specs.Meaning.{ranked}
 use Rattle.layout.specs.Follows.{Follows}
 use Rattle.layout.specs.SetUp.{Did, did}
-use Rattle.layout.specs.declared.head.Header.{Header}
-use Rattle.layout.specs.declared.answer.Outcome.the-variants.{Done, Refused}
+use Rattle.document.specs.declared.sizes.Sizes.{Sizes}
+use Rattle.document.specs.declared.answer.Outcome.the-variants.{Done, Refused}
 use Rattle.layout_laws.proofs.Walked.{follows-walked}
 use Rattle.ranks.specs.Form.{toRanked, toOpen, rankUpBy, openBy}
 use Rattle.ranks.proofs.Forms.{rank-up-says}
@@ -31,6 +31,6 @@ up-and-back {x} w o =
     let t = rank-up-says w in
     let y = rankUpBy x .after in
     ap (λ (d : Did). d .after) (leaves-it (t .follows) (t .mode (ap (λ (d : Did). d .answer) e)))
-    ∙ ap (λ (h : Header). toOpen h y) (t .sizes)
+    ∙ ap (λ (h : Sizes). toOpen h y) (t .sizes)
     ∙ ap (λ (d : Did). toOpen (head x) (d .after)) e
     ∙ ranked-open w o

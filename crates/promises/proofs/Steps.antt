@@ -7,26 +7,31 @@ use lib.IntN.{ℤ}
 use lib.Dec.{eqb}
 use Rattle.sums.specs.Ids.{Ids}
 use Rattle.layout.specs.Mem.{Mem}
-use Rattle.layout.specs.Meaning.{Kind, ranked}
+use Rattle.document.specs.State.{Kind, State}
+use Rattle.layout.specs.Meaning.{ranked, stateOf}
 use Rattle.layout.specs.Follows.{Follows}
-use Rattle.layout.specs.declared.head.Header.{Header}
-use Rattle.layout.specs.declared.answer.Outcome.{Outcome}
-use Rattle.layout.specs.declared.answer.Outcome.the-variants as outcome
-use Rattle.layout.specs.declared.answer.Truth.{Truth}
-use Rattle.layout.specs.declared.answer.Truth.the-variants as truth
-use Rattle.calls.specs.Promise.{State, stateOf, newAnswer, preparedAnswer, prepareAnswer, Inserts, Prepares}
+use Rattle.document.specs.declared.sizes.Sizes.{Sizes}
+use Rattle.document.specs.declared.answer.Outcome.{Outcome}
+use Rattle.document.specs.declared.answer.Outcome.the-variants as outcome
+use Rattle.document.specs.declared.answer.Truth.{Truth}
+use Rattle.document.specs.declared.answer.Truth.the-variants as truth
+use Rattle.document.specs.Prepare.{prepareAnswer, readied}
+use Rattle.document.specs.Insert.{newAnswer, preparedAnswer, inserted}
+use Rattle.calls.specs.Promise.{Inserts, Prepares}
 use Rattle.calls.proofs.Inserting.{insert-says, prepared-says}
 use Rattle.calls.proofs.Preparing.{prepare-says}
 use Rattle.ranks.specs.Promise.{Turns, rankUpAnswer, openAnswer}
 use Rattle.ranks.proofs.Forms.{rank-up-says, open-says}
-use Rattle.promises.specs.Calls.{Call, insert, prepared, prepare, rank-up, leave, Fitting, whether, that, inserted, readied, inMode, answer, after, said, left}
+use Rattle.document.specs.Answers.{inMode, answer, after}
+use Rattle.document.specs.Calls.{Call, insert, prepared, prepare, rank-up, leave, Fitting, whether, that}
+use Rattle.promises.specs.Calls.{said, left}
 
 -- ---- states by their parts
 
-abbrev state : Header → Bool → Ids → (ℕ → Kind) → State
+abbrev state : Sizes → Bool → Ids → (ℕ → Kind) → State
 state h b members map = record { sizes = h; mode = b; members = members; map = map }
 
-pub same-state : {h k : Header} {a b : Bool} {P Q : Ids} {f g : ℕ → Kind} → h ≡ k → a ≡ b → P ≡ Q → f ≡ g → state h a P f ≡ state k b Q g
+pub same-state : {h k : Sizes} {a b : Bool} {P Q : Ids} {f g : ℕ → Kind} → h ≡ k → a ≡ b → P ≡ Q → f ≡ g → state h a P f ≡ state k b Q g
 same-state p q r s = λ i. state (p i) (q i) (r i) (s i)
 
 module _ {x y : Mem} where

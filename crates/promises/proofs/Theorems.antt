@@ -7,10 +7,11 @@ use lib.IntN.{ℤ, pos}
 use Rattle.sums.specs.Ids.{count, total, rank}
 use Rattle.sums.proofs.Ranks.{nth-member, nth-one}
 use Rattle.layout.specs.Mem.{Mem}
-use Rattle.layout.specs.declared.answer.Amount.the-variants as amount
-use Rattle.calls.specs.Promise.{State}
-use Rattle.promises.specs.Calls.{Call, rank-up, leave, Fitting, Said, many, Refuses, said, left}
-use Rattle.promises.specs.Asks.{Ask, rank-of, asked}
+use Rattle.document.specs.declared.answer.Amount.the-variants as amount
+use Rattle.document.specs.State.{State}
+use Rattle.document.specs.Calls.{Call, rank-up, leave, Fitting, Said, many, Refuses, Ask, rank-of}
+use Rattle.promises.specs.Calls.{said, left}
+use Rattle.promises.specs.Asks.{asked}
 use Rattle.promises.specs.Stories.{Story, then, Told, described, reached, Kept, Reads}
 use Rattle.promises.specs.Outcomes.{Public, Allowed}
 use Rattle.promises.specs.Cases.{AllSay, table}

@@ -6,17 +6,16 @@ use lib.Dec.{eqb}
 use Rattle.sums.specs.Ids.{has, count, total, rank, rankIf}
 use Rattle.numbers.specs.Ids.{chunkOf}
 use Rattle.layout.specs.Mem.{Mem}
-use Rattle.layout.specs.Sizes.{lastChunk}
-use Rattle.layout.specs.Meaning.{isPresent}
-use Rattle.layout.specs.declared.answer.Truth.the-variants as truth
-use Rattle.layout.specs.declared.answer.Amount.the-variants as amount
-use Rattle.layout.specs.declared.answer.Perhaps.the-variants as perhaps
+use Rattle.document.specs.Sizes.{lastChunk}
+use Rattle.document.specs.State.{isPresent, State}
+use Rattle.document.specs.declared.answer.Truth.the-variants as truth
+use Rattle.document.specs.declared.answer.Amount.the-variants as amount
+use Rattle.document.specs.declared.answer.Perhaps.the-variants as perhaps
 use Rattle.calls.specs.Reading.{getBy, chunkAnswer, chunkOfBy}
 use Rattle.calls.specs.Counts.{lenBy, isEmptyBy, hasAnyBy, chunksBy}
-use Rattle.calls.specs.Promise.{State}
 use Rattle.ranks.specs.Rank.{rankBy, rankIfBy, totalBy}
-use Rattle.ranks.specs.Promise.{perhapsRank}
-use Rattle.promises.specs.Calls.{Said, whether, many, maybe}
+use Rattle.document.specs.Answers.{perhapsRank}
+use Rattle.document.specs.Calls.{Said, whether, many, maybe}
 
 pub data Ask : Type 0 where
   get : ℤ → Ask

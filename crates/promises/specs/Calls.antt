@@ -6,19 +6,20 @@ use lib.IntN.{ℤ}
 use mir.Syntax.{w64}
 use mir.Val.{SFits}
 use Rattle.layout.specs.Mem.{Mem}
-use Rattle.layout.specs.Meaning.{absent}
-use Rattle.layout.specs.declared.head.Header.{Header}
-use Rattle.layout.specs.declared.answer.Outcome.{Outcome}
-use Rattle.layout.specs.declared.answer.Outcome.the-variants as outcome
-use Rattle.layout.specs.declared.answer.Truth.{Truth}
-use Rattle.layout.specs.declared.answer.Truth.the-variants as truth
-use Rattle.layout.specs.declared.answer.Amount.{Amount}
-use Rattle.layout.specs.declared.answer.Amount.the-variants as amount
-use Rattle.layout.specs.declared.answer.Perhaps.{Perhaps}
-use Rattle.layout.specs.declared.answer.Perhaps.the-variants as perhaps
+use Rattle.document.specs.State.{absent, State}
+use Rattle.document.specs.declared.sizes.Sizes.{Sizes}
+use Rattle.document.specs.declared.answer.Outcome.{Outcome}
+use Rattle.document.specs.declared.answer.Outcome.the-variants as outcome
+use Rattle.document.specs.declared.answer.Truth.{Truth}
+use Rattle.document.specs.declared.answer.Truth.the-variants as truth
+use Rattle.document.specs.declared.answer.Amount.{Amount}
+use Rattle.document.specs.declared.answer.Amount.the-variants as amount
+use Rattle.document.specs.declared.answer.Perhaps.{Perhaps}
+use Rattle.document.specs.declared.answer.Perhaps.the-variants as perhaps
 use Rattle.calls.specs.Insert.{insertBy, preparedBy}
 use Rattle.calls.specs.Prepare.{prepareBy}
-use Rattle.calls.specs.Promise.{State, isId, newAnswer, mapAfter, preparedAnswer, mapPrepared, prepareAnswer}
+use Rattle.document.specs.Prepare.{mapPrepared, prepareAnswer}
+use Rattle.document.specs.Insert.{isId, newAnswer, mapAfter, preparedAnswer}
 use Rattle.ranks.specs.Form.{rankUpBy, openBy}
 
 pub data Call : Type 0 where
@@ -58,7 +59,7 @@ Refuses (maybe (perhaps.Refused k)) n = k ≡ n
 -- ---- by document 01's words
 
 -- an empty open set
-abbrev pub empty : Header → State
+abbrev pub empty : Sizes → State
 empty h = record { sizes = h; mode = false; members = λ (_ : ℕ). false; map = λ (_ : ℕ). absent }
 
 abbrev pub inserted : State → ℤ → Truth → State

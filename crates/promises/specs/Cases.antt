@@ -8,19 +8,22 @@ use lib.ListN.{replicate}
 use Rattle.sums.specs.Cases as plain-set
 use Rattle.layout.specs.Mem.{Mem, mem}
 use Rattle.layout.specs.Places.{rowOwner, pageOwner}
-use Rattle.layout.specs.Meaning.{Kind, sparse, dense, kinds}
+use Rattle.document.specs.State.{Kind, sparse, dense}
+use Rattle.layout.specs.Meaning.{kinds}
 use Rattle.layout.specs.SetUp.{sizesOf}
-use Rattle.layout.specs.declared.head.Header.{Header}
-use Rattle.layout.specs.declared.answer.Outcome.the-variants as outcome
-use Rattle.layout.specs.declared.answer.Truth.the-variants as truth
-use Rattle.layout.specs.declared.answer.Amount.the-variants as amount
-use Rattle.layout.specs.declared.answer.Perhaps.the-variants as perhaps
-use Rattle.promises.specs.Calls.{Call, insert, prepared, prepare, rank-up, Said, whether, that, many, maybe, answer, said, left}
-use Rattle.promises.specs.Asks.{Ask, len, has-any, rank-of, rank-if, reply, asked}
+use Rattle.document.specs.declared.sizes.Sizes.{Sizes}
+use Rattle.document.specs.declared.answer.Outcome.the-variants as outcome
+use Rattle.document.specs.declared.answer.Truth.the-variants as truth
+use Rattle.document.specs.declared.answer.Amount.the-variants as amount
+use Rattle.document.specs.declared.answer.Perhaps.the-variants as perhaps
+use Rattle.document.specs.Answers.{answer, reply}
+use Rattle.document.specs.Calls.{Call, insert, prepared, prepare, rank-up, Said, whether, that, many, maybe, Ask, len, has-any, rank-of, rank-if}
+use Rattle.promises.specs.Calls.{said, left}
+use Rattle.promises.specs.Asks.{asked}
 use Rattle.promises.specs.Stories.{Story, made, then, described, reached}
 
 -- slices of zeros that are just long enough
-abbrev pub tiny : Header
+abbrev pub tiny : Sizes
 tiny = sizesOf 9 4 2 1 2 1
 
 abbrev pub blank : Mem

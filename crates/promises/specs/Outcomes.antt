@@ -2,18 +2,18 @@
 use mathlib.Core.Path.{_≡_}
 use Rattle.layout.specs.Mem.{Mem}
 use Rattle.layout.specs.SetUp.{did, setUpBy}
-use Rattle.layout.specs.declared.head.Header.{Header}
-use Rattle.layout.specs.declared.answer.Outcome.{Outcome}
-use Rattle.layout.specs.declared.answer.Truth.{Truth}
+use Rattle.document.specs.declared.sizes.Sizes.{Sizes}
+use Rattle.document.specs.declared.answer.Outcome.{Outcome}
+use Rattle.document.specs.declared.answer.Truth.{Truth}
 use Rattle.calls.specs.Insert.{told, insertBy, preparedBy}
 use Rattle.calls.specs.Prepare.{prepareBy}
 use Rattle.ranks.specs.Form.{rankUpBy, openBy}
-use Rattle.promises.specs.Calls.{Call, insert, prepared, prepare, rank-up, leave, Said, whether, that, many, maybe}
-use Rattle.promises.specs.Asks.{Ask, asked}
+use Rattle.document.specs.Calls.{Call, insert, prepared, prepare, rank-up, leave, Said, whether, that, many, maybe, Ask}
+use Rattle.promises.specs.Asks.{asked}
 
 -- every call: set-up, those that change a set, those that read one
 pub data Public : Type 0 where
-  set-up : Header → Public
+  set-up : Sizes → Public
   change : Call → Public
   ask : Ask → Public
 

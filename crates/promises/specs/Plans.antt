@@ -8,11 +8,12 @@ use Rattle.sums.specs.Ids.{Ids, total}
 use Rattle.sums.specs.Cuts.{size, parts, held}
 use Rattle.sums.specs.Planned.{Planned}
 use Rattle.layout.specs.Mem.{Mem}
-use Rattle.cuts.specs.Plan.{planBy, planOf}
-use Rattle.cuts.specs.Spans.{intervalOf, spanAt, idsBy, ranksBy}
-use Rattle.cuts.specs.declared.plan.Planning.the-variants.{Made, Refused}
-use Rattle.cuts.specs.declared.plan.Spanned.the-variants as spanned
-use Rattle.cuts.specs.declared.plan.Ranks.the-variants as ranks
+use Rattle.document.specs.Plan.{planOf}
+use Rattle.cuts.specs.Plan.{planBy}
+use Rattle.document.specs.Spans.{intervalOf, spanAt, idsAnswer, ranksAnswer}
+use Rattle.document.specs.declared.plan.Planning.the-variants.{Made, Refused}
+use Rattle.document.specs.declared.plan.Spanned.the-variants as spanned
+use Rattle.document.specs.declared.plan.Ranks.the-variants as ranks
 
 -- planning for S into the boundaries bs, on memory x that stands for the set P, ranked
 pub record Cuts (P : Ids) (x : Mem) (S : ℕ) (bs : List ℤ) : Type 0 where
@@ -21,8 +22,8 @@ pub record Cuts (P : Ids) (x : Mem) (S : ℕ) (bs : List ℤ) : Type 0 where
   pub makes : parts (total P) S - 1 ≤ length bs → planBy x S bs .answer ≡ Made (planOf (total P) S)
   -- else `ids` answers intervals that cover every i64 once, interval k holds exactly the members ranked from kS up to (k+1)S, and no cutting has fewer
   pub ids : parts (total P) S - 1 ≤ length bs → (k : ℕ) → k < parts (total P) S →
-      idsBy (planOf (total P) S) (planBy x S bs .bounds) k ≡ spanned.Of (spanAt (planOf (total P) S) (planBy x S bs .bounds) k)
+      idsAnswer (planOf (total P) S) (planBy x S bs .bounds) k ≡ spanned.Of (spanAt (planOf (total P) S) (planBy x S bs .bounds) k)
   pub cuts : parts (total P) S - 1 ≤ length bs → Planned P S (parts (total P) S) (λ (k : ℕ). intervalOf (spanAt (planOf (total P) S) (planBy x S bs .bounds) k))
   -- and `ranks` answers their first ranks and counts
   pub counts : parts (total P) S - 1 ≤ length bs → (k : ℕ) → k < parts (total P) S →
-      ranksBy (planOf (total P) S) k ≡ ranks.Of (k * size S) (held P (intervalOf (spanAt (planOf (total P) S) (planBy x S bs .bounds) k)))
+      ranksAnswer (planOf (total P) S) k ≡ ranks.Of (k * size S) (held P (intervalOf (spanAt (planOf (total P) S) (planBy x S bs .bounds) k)))

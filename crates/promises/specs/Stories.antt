@@ -1,16 +1,20 @@
 -- Histories as data: a set-up, then calls. What each describes, and the memory that it reaches.
 use mathlib.Core.Path.{_≡_}
 use Rattle.layout.specs.Mem.{Mem}
-use Rattle.layout.specs.Sizes.{InRange, RoomIn}
+use Rattle.document.specs.Sizes.{InRange}
+use Rattle.layout.specs.Sizes.{RoomIn}
 use Rattle.layout.specs.SetUp.{setUpBy}
 use Rattle.layout.specs.Follows.{Follows}
-use Rattle.layout.specs.declared.head.Header.{Header}
-use Rattle.calls.specs.Promise.{State, stateOf}
-use Rattle.promises.specs.Calls.{Call, Fitting, empty, answer, after, said, left}
-use Rattle.promises.specs.Asks.{Ask, reply, asked}
+use Rattle.document.specs.declared.sizes.Sizes.{Sizes}
+use Rattle.layout.specs.Meaning.{stateOf}
+use Rattle.document.specs.State.{State, empty}
+use Rattle.document.specs.Answers.{answer, after, reply}
+use Rattle.document.specs.Calls.{Call, Fitting, Ask}
+use Rattle.promises.specs.Calls.{said, left}
+use Rattle.promises.specs.Asks.{asked}
 
 pub data Story : Type 0 where
-  made : Header → Mem → Story
+  made : Sizes → Mem → Story
   then : Story → Call → Story
 
 -- set-up was given sizes of the table and slices that are long enough, and each id is an i64

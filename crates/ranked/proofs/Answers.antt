@@ -17,10 +17,10 @@ use Rattle.numbers.proofs.Signs.{hop}
 use Rattle.numbers.proofs.Splits.{split-lies, lies-below}
 use Rattle.layout.specs.Mem.{Mem}
 use Rattle.layout.specs.Sizes.{totalAt}
-use Rattle.layout.specs.declared.answer.Amount.{Amount}
-use Rattle.layout.specs.declared.answer.Amount.the-variants as amount
-use Rattle.layout.specs.declared.answer.Perhaps.{Perhaps}
-use Rattle.layout.specs.declared.answer.Perhaps.the-variants as perhaps
+use Rattle.document.specs.declared.answer.Amount.{Amount}
+use Rattle.document.specs.declared.answer.Amount.the-variants as amount
+use Rattle.document.specs.declared.answer.Perhaps.{Perhaps}
+use Rattle.document.specs.declared.answer.Perhaps.the-variants as perhaps
 use Rattle.calls.specs.Reading.{spotBy}
 use Rattle.ranks.specs.Rank.{belowAt, plus, rankSeat, rankSplit, ifRanked, rankBy, hasSpot, perhapsOf, rankIfSeat, rankIfSplit, rankIfBy, totalBy}
 use Rattle.layout.specs.declared.seat.Seat.{Seat}

@@ -12,8 +12,8 @@ use Rattle.sparse.proofs.Halving.{lower-le}
 use Rattle.dense.specs.Bits.{bitsTo, isSet}
 use Rattle.dense.proofs.Counts.{bits-le}
 use Rattle.layout.specs.Mem.{Mem, mem}
-use Rattle.layout.specs.declared.answer.Amount.{Amount}
-use Rattle.layout.specs.declared.answer.Amount.the-variants.{Of, Refused}
+use Rattle.document.specs.declared.answer.Amount.{Amount}
+use Rattle.document.specs.declared.answer.Amount.the-variants.{Of, Refused}
 use Rattle.layout.specs.declared.find.Spot.{Spot}
 use Rattle.layout.specs.declared.find.Spot.the-variants.{Row, Page}
 use Rattle.calls.specs.Reading.{spotBy, isFound}

@@ -9,13 +9,14 @@ use Rattle.numbers.proofs.Powers.{Powers, powers, scaled-most}
 use Rattle.dense.specs.Bits.{bitsTo}
 use Rattle.dense.proofs.Counts.{bits-zero, bits-le}
 use Rattle.dense.proofs.Parts.{bits-part}
-use Rattle.layout.specs.Sizes.{InRange, top, wide, blocksOf}
+use Rattle.document.specs.Sizes.{InRange, top}
+use Rattle.layout.specs.Sizes.{wide, blocksOf}
 use Rattle.layout.specs.Places.{pagePart}
-use Rattle.layout.specs.declared.head.Header.{Header}
+use Rattle.document.specs.declared.sizes.Sizes.{Sizes}
 use Rattle.layout_laws.proofs.Sizes.{slot-inside, blocks-top}
 use Rattle.ranks.specs.Form.{blocked, blockedTo}
 use Rattle.ranks.proofs.Blocks.{blocked-length, blocks-at}
-use Rattle.ranked.specs.Counts.{counted, Told}
+use Rattle.ranked.specs.Counts.{counted, BlocksCounted}
 use Rattle.ranked.proofs.Parts.{span, length-part}
 
 -- ---- the words of one page
@@ -61,16 +62,16 @@ module _ (words start : List ℕ) (k n : ℕ) where
 
 -- ---- page p
 
-counted-blocked : (h : Header) (pages blocks : List ℕ) (p n : ℕ) → counted (pagePart h pages p) blocks (p * blocksOf h) n ≡ blocked h pages blocks p n
+counted-blocked : (h : Sizes) (pages blocks : List ℕ) (p n : ℕ) → counted (pagePart h pages p) blocks (p * blocksOf h) n ≡ blocked h pages blocks p n
 unfolding counted blocked
 counted-blocked h pages blocks p zero = refl
 counted-blocked h pages blocks p (suc n) = ap (λ (xs : List ℕ). set xs (p * blocksOf h + n) (bitsTo (pagePart h pages p) (512 * n))) (counted-blocked h pages blocks p n)
 
 -- what powers of two h's pages and blocks are
-pub shifts : (h : Header) → InRange h → Powers (h .s)
+pub shifts : (h : Sizes) → InRange h → Powers (h .s)
 shifts h z = powers (h .s) (z .s-low) (z .s-high)
 
-module _ (h : Header) (z : InRange h) (pages : List ℕ) (p : ℕ) (l : p < h .p) (room : h .p * wide h ≤ length pages) (a m : ℕ) (ea : a ≡ p * wide h) (em : m ≡ wide h) where
+module _ (h : Sizes) (z : InRange h) (pages : List ℕ) (p : ℕ) (l : p < h .p) (room : h .p * wide h ≤ length pages) (a m : ℕ) (ea : a ≡ p * wide h) (em : m ≡ wide h) where
   -- the page's words lie in the pool
   pub page-fits : a + m ≤ length pages
   page-fits = let s = slot-inside p (h .p) (wide h) l in omega (arith, ea, em)
@@ -100,7 +101,7 @@ module _ (h : Header) (z : InRange h) (pages : List ℕ) (p : ℕ) (l : p < h .p
         ∙ (ap₂ (counted (pagePart h pages p) blocks) ek en ∙ counted-blocked h pages blocks p (blocksOf h)))
 
     -- its members: those before the last block, and that block's
-    pub page-total : (blocks ws : List ℕ) (v r : ℕ) → Told h pages blocks → v ≡ getD blocks (k + (n - 1)) 0 → ws ≡ take 8 (drop (8 * (n - 1)) (take (a + m - a) (drop a pages))) → r ≡ bitsTo ws 512 → v + r ≡ bitsTo (pagePart h pages p) (top h)
+    pub page-total : (blocks ws : List ℕ) (v r : ℕ) → BlocksCounted h pages blocks → v ≡ getD blocks (k + (n - 1)) 0 → ws ≡ take 8 (drop (8 * (n - 1)) (take (a + m - a) (drop a pages))) → r ≡ bitsTo ws 512 → v + r ≡ bitsTo (pagePart h pages p) (top h)
     page-total blocks ws v r t ev ew er =
         let some = page-wide .0 in
         let i : n - 1 < blocksOf h = omega (arith, en) in
@@ -111,12 +112,12 @@ module _ (h : Header) (z : InRange h) (pages : List ℕ) (p : ℕ) (l : p < h .p
 
 -- ---- all pages
 
-pub record Paged (h : Header) (pages start : List ℕ) (n : ℕ) (now : List ℕ) (p : ℕ) : Type 0 where
+pub record Paged (h : Sizes) (pages start : List ℕ) (n : ℕ) (now : List ℕ) (p : ℕ) : Type 0 where
   pub most : p ≤ n
   pub here : now ≡ blockedTo h pages start p
   pub long : length now ≡ length start
 
-module _ (h : Header) (pages start : List ℕ) (n : ℕ) where
+module _ (h : Sizes) (pages start : List ℕ) (n : ℕ) where
   pub paged-start : Paged h pages start n start 0
   unfolding blockedTo
   paged-start = record { most = omega arith; here = refl; long = refl }
@@ -133,5 +134,5 @@ module _ (h : Header) (pages start : List ℕ) (n : ℕ) where
   paged-end now p c l = let m = c .most in let e : p ≡ n = omega arith in c .here ∙ ap (blockedTo h pages start) e
 
 -- after which every block is told
-pub all-told : (h : Header) (pages start now : List ℕ) → h .p * blocksOf h ≤ length start → now ≡ blockedTo h pages start (h .p) → Told h pages now
+pub all-told : (h : Sizes) (pages start now : List ℕ) → h .p * blocksOf h ≤ length start → now ≡ blockedTo h pages start (h .p) → BlocksCounted h pages now
 all-told h pages start now room e = record { at = λ p b l m. ap (λ (xs : List ℕ). getD xs (p * blocksOf h + b) 0) e ∙ blocks-at h pages start (h .p) p b l m room }

@@ -7,18 +7,20 @@ use native.Mathlib.Omega.{arith}
 use lib.Dec.{eqb}
 use Rattle.sums.specs.Sums.{sumTo}
 use Rattle.layout.specs.Mem.{Mem, mem}
+use Rattle.layout.specs.Meaning.{stateOf}
 use Rattle.layout.specs.Sizes.{blocksOf, head, modeAt, overCount}
 use Rattle.layout.specs.Entries.{entries, placeAt}
 use Rattle.layout.specs.Follows.{Owned, membersAt}
 use Rattle.layout.specs.Tests.{Walked, walked}
 use Rattle.layout.specs.SetUp.{Did, did, zeroed}
-use Rattle.layout.specs.declared.head.Header.{Header}
+use Rattle.document.specs.declared.sizes.Sizes.{Sizes}
 use Rattle.layout.specs.declared.place.Place.{Place}
 use Rattle.layout.specs.declared.place.Place.the-variants.{Absent, Sparse, Dense}
-use Rattle.layout.specs.declared.answer.Outcome.{Outcome}
-use Rattle.layout.specs.declared.answer.Outcome.the-variants.{Done, Refused}
+use Rattle.document.specs.declared.answer.Outcome.{Outcome}
+use Rattle.document.specs.declared.answer.Outcome.the-variants.{Done, Refused}
 use Rattle.ranks.specs.Form.{prefixed, marked, blockedTo, toRanked, toOpen, rankUpBy, openBy}
-use Rattle.ranks.specs.Promise.{Turns, rankUpAnswer, openAnswer}
+use Rattle.document.specs.Answers.{rankUpAnswer, leaveAnswer}
+use Rattle.ranks.proofs.Turns.{Turns}
 use Rattle.ranks.proofs.Forms.{rank-up-says, open-says}
 use Rattle.ranked.specs.Modes.{formOf}
 use Rattle.ranked.specs.Counts.{entrySize, Inside, Places}
@@ -29,25 +31,25 @@ use Rattle.ranked.proofs.Modes.{form-walked}
 
 -- ---- what the walk found
 
-owned-inside : (h : Header) (t : List ℕ) (c : ℕ) (p : Place) → Owned h t c p → Inside h p
+owned-inside : (h : Sizes) (t : List ℕ) (c : ℕ) (p : Place) → Owned h t c p → Inside h p
 owned-inside h t c Absent o = tt
 owned-inside h t c (Sparse r l) o = o .short
 owned-inside h t c (Dense p) o = o .there
 
-pub walked-places : {x : Mem} {h : Header} → Walked x h → Places h (x .table)
+pub walked-places : {x : Mem} {h : Sizes} → Walked x h → Places h (x .table)
 walked-places {x} {h} w = record { at = λ e l. owned-inside h (x .table) _ (placeAt h (x .table) e) (w .places e l) }
 
-pub walked-over : {x : Mem} {h : Header} → Walked x h → overCount (x .table) ≤ 65536
+pub walked-over : {x : Mem} {h : Sizes} → Walked x h → overCount (x .table) ≤ 65536
 walked-over w = let z = w .sizes in let f = w .over-fits in omega arith
 
 -- ---- what is written
 
-pub all-counted : (h : Header) (x : Mem) (bl t u : List ℕ) (n : ℕ) → bl ≡ blockedTo h (x .pages) (x .blocks) (h .p) → n ≡ sumTo (entrySize h (x .pages) (x .table)) (entries h (x .table))
+pub all-counted : (h : Sizes) (x : Mem) (bl t u : List ℕ) (n : ℕ) → bl ≡ blockedTo h (x .pages) (x .blocks) (h .p) → n ≡ sumTo (entrySize h (x .pages) (x .table)) (entries h (x .table))
     → t ≡ prefixed h (x .table) (sumTo (entrySize h (x .pages) (x .table))) (entries h (x .table)) → u ≡ marked t 1 n → mem (x .pages) (x .rows) bl u ≡ toRanked h x
 unfolding toRanked entrySize membersAt
 all-counted h x bl t u n eb en et eu = ap₂ (λ (b v : List ℕ). mem (x .pages) (x .rows) b v) eb (eu ∙ ap₂ (λ (v : List ℕ) (k : ℕ). marked v 1 k) et en)
 
-pub all-cleared : (h : Header) (x : Mem) (a : ℕ) (bl t u : List ℕ) → a ≡ h .p * blocksOf h → bl ≡ zeroed a (x .blocks) → t ≡ prefixed h (x .table) (λ (_ : ℕ). 0) (entries h (x .table)) → u ≡ marked t 0 0 → mem (x .pages) (x .rows) bl u ≡ toOpen h x
+pub all-cleared : (h : Sizes) (x : Mem) (a : ℕ) (bl t u : List ℕ) → a ≡ h .p * blocksOf h → bl ≡ zeroed a (x .blocks) → t ≡ prefixed h (x .table) (λ (_ : ℕ). 0) (entries h (x .table)) → u ≡ marked t 0 0 → mem (x .pages) (x .rows) bl u ≡ toOpen h x
 unfolding toOpen
 all-cleared h x a bl t u ea eb et eu = ap₂ (λ (b v : List ℕ). mem (x .pages) (x .rows) b v) (eb ∙ ap (λ (k : ℕ). zeroed k (x .blocks)) ea) (eu ∙ ap (λ (v : List ℕ). marked v 0 0) et)
 
@@ -83,10 +85,10 @@ module _ (x : Mem) where
       go false d = refl
 
   ranked-up : (a : Outcome) (y : Mem) → did a y ≡ rankUpBy x → RankedUp x a y
-  ranked-up a y e = record { by = e; says = λ w. subst (λ (d : Did). Turns x (rankUpAnswer x) true (d .answer) (d .after)) (sym e) (rank-up-says w) }
+  ranked-up a y e = record { by = e; says = λ w. subst (λ (d : Did). Turns x (rankUpAnswer (stateOf x)) true (d .answer) (d .after)) (sym e) (rank-up-says w) }
 
   opened : (a : Outcome) (y : Mem) → did a y ≡ openBy x → Opened x a y
-  opened a y e = record { by = e; says = λ w. subst (λ (d : Did). Turns x (openAnswer x) false (d .answer) (d .after)) (sym e) (open-says w) }
+  opened a y e = record { by = e; says = λ w. subst (λ (d : Did). Turns x (leaveAnswer (stateOf x)) false (d .answer) (d .after)) (sym e) (open-says w) }
 
   pub up-bad : formOf x ≡ Bad → RankedUp x (Refused 3) x
   up-bad e = ranked-up (Refused 3) x (up-form Bad e)
@@ -94,8 +96,8 @@ module _ (x : Mem) where
   pub up-ranked : formOf x ≡ Ranked → RankedUp x (Refused 4) x
   up-ranked e = ranked-up (Refused 4) x (up-form Ranked e)
 
-  pub up-open : formOf x ≡ Open → (h : Header) (y : Mem) → h ≡ head x → y ≡ toRanked h x → RankedUp x Done y
-  up-open e h y f g = ranked-up Done y (ap (did Done) (g ∙ ap (λ (k : Header). toRanked k x) f) ∙ up-form Open e)
+  pub up-open : formOf x ≡ Open → (h : Sizes) (y : Mem) → h ≡ head x → y ≡ toRanked h x → RankedUp x Done y
+  up-open e h y f g = ranked-up Done y (ap (did Done) (g ∙ ap (λ (k : Sizes). toRanked k x) f) ∙ up-form Open e)
 
   pub down-bad : formOf x ≡ Bad → Opened x (Refused 3) x
   down-bad e = opened (Refused 3) x (down-form Bad e)
@@ -103,12 +105,12 @@ module _ (x : Mem) where
   pub down-open : formOf x ≡ Open → Opened x (Refused 5) x
   down-open e = opened (Refused 5) x (down-form Open e)
 
-  pub down-ranked : formOf x ≡ Ranked → (h : Header) (y : Mem) → h ≡ head x → y ≡ toOpen h x → Opened x Done y
-  down-ranked e h y f g = opened Done y (ap (did Done) (g ∙ ap (λ (k : Header). toOpen k x) f) ∙ down-form Ranked e)
+  pub down-ranked : formOf x ≡ Ranked → (h : Sizes) (y : Mem) → h ≡ head x → y ≡ toOpen h x → Opened x Done y
+  down-ranked e h y f g = opened Done y (ap (did Done) (g ∙ ap (λ (k : Sizes). toOpen k x) f) ∙ down-form Ranked e)
 
   -- the walk found nothing wrong
-  pub open-walked : formOf x ≡ Open → (h : Header) → h ≡ head x → Walked x h
+  pub open-walked : formOf x ≡ Open → (h : Sizes) → h ≡ head x → Walked x h
   open-walked e h f = subst (Walked x) (sym f) (form-walked x Open e (λ (q : Open ≡ Bad). let z : _≡_ {A = ℕ} 0 1 = cc in omega arith))
 
-  pub ranked-walked : formOf x ≡ Ranked → (h : Header) → h ≡ head x → Walked x h
+  pub ranked-walked : formOf x ≡ Ranked → (h : Sizes) → h ≡ head x → Walked x h
   ranked-walked e h f = subst (Walked x) (sym f) (form-walked x Ranked e (λ (q : Ranked ≡ Bad). let z : _≡_ {A = ℕ} 0 1 = cc in omega arith))

@@ -9,11 +9,12 @@ use Rattle.sums.specs.Sums.{sumTo}
 use Rattle.sums.proofs.Sums.{sum-next, sum-bound}
 use Rattle.numbers.proofs.Powers.{powers}
 use Rattle.dense.proofs.Counts.{bits-le}
-use Rattle.layout.specs.Sizes.{InRange, top, overCount}
+use Rattle.document.specs.Sizes.{InRange, top}
+use Rattle.layout.specs.Sizes.{overCount}
 use Rattle.layout.specs.Places.{decoded, pagePart}
 use Rattle.layout.specs.Entries.{entries, placeAt, prefixPlace}
 use Rattle.layout.specs.Follows.{sizeOf}
-use Rattle.layout.specs.declared.head.Header.{Header}
+use Rattle.document.specs.declared.sizes.Sizes.{Sizes}
 use Rattle.layout.specs.declared.place.Place.{Place}
 use Rattle.layout.specs.declared.place.Place.the-variants.{Absent, Sparse, Dense}
 use Rattle.ranks.specs.Form.{prefixed}
@@ -22,7 +23,7 @@ use Rattle.ranked.specs.Counts.{entrySize, Inside, Places}
 
 -- ---- one entry
 
-module _ (h : Header) (pages t : List ℕ) (e : ℕ) (q : Place) (f : q ≡ placeAt h t e) where
+module _ (h : Sizes) (pages t : List ℕ) (e : ℕ) (q : Place) (f : q ≡ placeAt h t e) where
   pub size-way : (p : Place) → q ≡ p → sizeOf h pages p ≡ entrySize h pages t e
   unfolding entrySize
   size-way p g = ap (sizeOf h pages) (sym g ∙ f)
@@ -32,12 +33,12 @@ module _ (h : Header) (pages t : List ℕ) (e : ℕ) (q : Place) (f : q ≡ plac
 
 -- ---- members are few
 
-size-small : (h : Header) (pages : List ℕ) → InRange h → (p : Place) → Inside h p → sizeOf h pages p ≤ 33554432
+size-small : (h : Sizes) (pages : List ℕ) → InRange h → (p : Place) → Inside h p → sizeOf h pages p ≤ 33554432
 size-small h pages z Absent i = omega arith
 size-small h pages z (Sparse r l) i = let b = z .m-high in omega arith
 size-small h pages z (Dense p) i = let q = powers (h .s) (z .s-low) (z .s-high) in let b = bits-le (pagePart h pages p) (top h) in omega (arith, q .most)
 
-pub sizes-small : (h : Header) (pages t : List ℕ) → InRange h → overCount t ≤ 65536 → Places h t → (e : ℕ) → e ≤ entries h t → sumTo (entrySize h pages t) e ≤ 10995116277760
+pub sizes-small : (h : Sizes) (pages t : List ℕ) → InRange h → overCount t ≤ 65536 → Places h t → (e : ℕ) → e ≤ entries h t → sumTo (entrySize h pages t) e ≤ 10995116277760
 unfolding entrySize
 sizes-small h pages t z o w e l =
     let d = z .d-high in
@@ -47,12 +48,12 @@ sizes-small h pages t z o w e l =
 -- ---- a turn
 
 -- entries before e have their prefixes, which are f
-pub record Written (h : Header) (start : List ℕ) (f : ℕ → ℕ) (n : ℕ) (now : List ℕ) (e : ℕ) : Type 0 where
+pub record Written (h : Sizes) (start : List ℕ) (f : ℕ → ℕ) (n : ℕ) (now : List ℕ) (e : ℕ) : Type 0 where
   pub most : e ≤ n
   pub here : now ≡ prefixed h start f e
   pub long : length now ≡ length start
 
-module _ (h : Header) (start : List ℕ) (f : ℕ → ℕ) (n : ℕ) where
+module _ (h : Sizes) (start : List ℕ) (f : ℕ → ℕ) (n : ℕ) where
   pub written-start : Written h start f n start 0
   unfolding prefixed
   written-start = record { most = omega arith; here = refl; long = refl }

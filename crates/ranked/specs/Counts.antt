@@ -8,14 +8,14 @@ use Rattle.layout.specs.Sizes.{blocksOf}
 use Rattle.layout.specs.Places.{pagePart}
 use Rattle.layout.specs.Entries.{entries, placeAt}
 use Rattle.layout.specs.Follows.{sizeOf}
-use Rattle.layout.specs.declared.head.Header.{Header}
+use Rattle.document.specs.declared.sizes.Sizes.{Sizes}
 use Rattle.layout.specs.declared.place.Place.{Place}
 use Rattle.layout.specs.declared.place.Place.the-variants.{Absent, Sparse, Dense}
-use Rattle.layout.specs.declared.answer.Amount.{Amount}
-use Rattle.layout.specs.declared.answer.Amount.the-variants.{Of, Refused}
+use Rattle.document.specs.declared.answer.Amount.{Amount}
+use Rattle.document.specs.declared.answer.Amount.the-variants.{Of, Refused}
 
 -- members of entry e
-unfoldable pub entrySize : Header → List ℕ → List ℕ → ℕ → ℕ
+unfoldable pub entrySize : Sizes → List ℕ → List ℕ → ℕ → ℕ
 entrySize h pages t e = sizeOf h pages (placeAt h t e)
 
 -- the counts of the first n blocks of a page's words, written from place k on
@@ -24,16 +24,16 @@ counted ws blocks k zero = blocks
 counted ws blocks k (suc b) = set (counted ws blocks k b) (k + b) (bitsTo ws (512 * b))
 
 -- every block's count stands at its place
-pub record Told (h : Header) (pages blocks : List ℕ) : Type 0 where
+pub record BlocksCounted (h : Sizes) (pages blocks : List ℕ) : Type 0 where
   pub at : (p b : ℕ) → p < h .p → b < blocksOf h → getD blocks (p * blocksOf h + b) 0 ≡ bitsTo (pagePart h pages p) (512 * b)
 
 -- every entry's row or page is inside its pool
-abbrev pub Inside : Header → Place → Type 0
+abbrev pub Inside : Sizes → Place → Type 0
 Inside h Absent = Unit
 Inside h (Sparse r l) = l ≤ h .m
 Inside h (Dense p) = p < h .p
 
-pub record Places (h : Header) (t : List ℕ) : Type 0 where
+pub record Places (h : Sizes) (t : List ℕ) : Type 0 where
   pub at : (e : ℕ) → e < entries h t → Inside h (placeAt h t e)
 
 -- a count that can be added to a prefix

@@ -3,13 +3,14 @@ ghost use mathlib.Core.Path.{_≡_};
 ghost use Prim.Native.Nat.{_*_, _^_, _≤_, _<_};
 ghost use lib.ListN.{length};
 ghost use Rattle.dense.specs.Bits.{bitsTo};
-ghost use Rattle.layout.specs.Sizes.{InRange, top, wide, blocksOf};
+ghost use Rattle.document.specs.Sizes.{InRange, top};
+ghost use Rattle.layout.specs.Sizes.{wide, blocksOf};
 ghost use Rattle.layout.specs.Places.{pagePart};
 ghost use Rattle.ranks.specs.Form.{blocked, blockedTo};
-ghost use Rattle.ranked.specs.Counts.{counted, Told};
+ghost use Rattle.ranked.specs.Counts.{counted, BlocksCounted};
 use dense::block;
 use layout::head;
-use layout::head::Header;
+use document::sizes::Sizes;
 use numbers::order;
 use numbers::place as element;
 use numbers::power;
@@ -29,7 +30,7 @@ pub fn count_words(words: &[u64], blocks: &mut [u32], k: u64, n: u64)
 }
 
 // The counts of page p.
-pub fn count_page(h: Header, pages: &[u64], blocks: &mut [u32], p: u64)
+pub fn count_page(h: Sizes, pages: &[u64], blocks: &mut [u32], p: u64)
     requires { ⌜ InRange h × (p < h .p) × (h .p * wide h ≤ length (now pages)) ⌝ }
     ensures { λ _. ⌜ now (blocks .exit) ≡ blocked h (now (pages .entry)) (now (blocks .entry)) p (blocksOf h) ⌝ }
 {
@@ -41,7 +42,7 @@ pub fn count_page(h: Header, pages: &[u64], blocks: &mut [u32], p: u64)
 }
 
 // The counts of all pages, free ones too.
-pub fn count_pages(h: Header, pages: &[u64], blocks: &mut [u32])
+pub fn count_pages(h: Sizes, pages: &[u64], blocks: &mut [u32])
     requires { ⌜ InRange h × (h .p * wide h ≤ length (now pages)) ⌝ }
     ensures { λ _. ⌜ now (blocks .exit) ≡ blockedTo h (now (pages .entry)) (now (blocks .entry)) (h .p) ⌝ }
 {
@@ -54,8 +55,8 @@ pub fn count_pages(h: Header, pages: &[u64], blocks: &mut [u32])
 }
 
 // The members of page p: those before its last block, and that block's.
-pub fn page_size(h: Header, pages: &[u64], blocks: &[u32], p: u64) -> u64
-    requires { ⌜ InRange h × (p < h .p) × (h .p * wide h ≤ length (now pages)) × Told h (now pages) (now blocks) ⌝ }
+pub fn page_size(h: Sizes, pages: &[u64], blocks: &[u32], p: u64) -> u64
+    requires { ⌜ InRange h × (p < h .p) × (h .p * wide h ≤ length (now pages)) × BlocksCounted h (now pages) (now blocks) ⌝ }
     ensures { λ r. ⌜ r ≡ bitsTo (pagePart h (now (pages .entry)) p) (top h) ⌝ }
 {
     let a = head::page_at(h, p) as usize;

@@ -8,7 +8,7 @@ ghost use Rattle.calls.specs.Reading.{spotBy, isFound};
 ghost use Rattle.ranks.specs.Rank.{inPage, belowAt, plus, hasSpot};
 ghost use Rattle.ranked.specs.Counts.{Small};
 use dense::block;
-use layout::answer::Amount;
+use document::answer::Amount;
 use layout::find;
 use layout::find::Spot;
 use numbers::place as element;

@@ -8,13 +8,13 @@ use crate::blocks;
 use crate::mode;
 use crate::mode::Form;
 use crate::prefixes;
-use layout::answer::Outcome;
+use document::answer::Outcome;
 use layout::head;
-use layout::head::Header;
+use document::sizes::Sizes;
 use layout::setup;
 
 // Counts every block, then every entry.
-fn count_all(h: Header, pages: &[u64], rows: &[u32], blocks: &mut [u32], table: &mut [u64])
+fn count_all(h: Sizes, pages: &[u64], rows: &[u32], blocks: &mut [u32], table: &mut [u64])
     requires { ⌜ Walked (memOf pages rows blocks table) h ⌝ }
     ensures { λ _. ⌜ memOf (pages .entry) (rows .entry) (blocks .exit) (table .exit) ≡ toRanked h (memOf (pages .entry) (rows .entry) (blocks .entry) (table .entry)) ⌝ }
 {
@@ -24,7 +24,7 @@ fn count_all(h: Header, pages: &[u64], rows: &[u32], blocks: &mut [u32], table: 
 }
 
 // Clears what ranking counted.
-fn clear_all(h: Header, pages: &[u64], rows: &[u32], blocks: &mut [u32], table: &mut [u64])
+fn clear_all(h: Sizes, pages: &[u64], rows: &[u32], blocks: &mut [u32], table: &mut [u64])
     requires { ⌜ Walked (memOf pages rows blocks table) h ⌝ }
     ensures { λ _. ⌜ memOf (pages .entry) (rows .entry) (blocks .exit) (table .exit) ≡ toOpen h (memOf (pages .entry) (rows .entry) (blocks .entry) (table .entry)) ⌝ }
 {

@@ -3,19 +3,20 @@ ghost use mathlib.Core.Path.{_≡_};
 ghost use Prim.Native.Nat.{_*_, _≤_, _<_};
 ghost use lib.ListN.{length};
 ghost use Rattle.sums.specs.Sums.{sumTo};
-ghost use Rattle.layout.specs.Sizes.{InRange, wide, overCount};
+ghost use Rattle.document.specs.Sizes.{InRange};
+ghost use Rattle.layout.specs.Sizes.{wide, overCount};
 ghost use Rattle.layout.specs.Entries.{entries, placeAt};
 ghost use Rattle.ranks.specs.Form.{prefixed, marked};
-ghost use Rattle.ranked.specs.Counts.{entrySize, Told, Inside, Places};
+ghost use Rattle.ranked.specs.Counts.{entrySize, BlocksCounted, Inside, Places};
 use crate::blocks;
 use layout::entry;
-use layout::head::Header;
+use document::sizes::Sizes;
 use layout::place::Place;
 use layout::write;
 use numbers::place as element;
 
 // How many entries there are.
-pub fn entry_count(table: &[u64], h: Header) -> u64
+pub fn entry_count(table: &[u64], h: Sizes) -> u64
     requires { ⌜ InRange h × (overCount (now table) ≤ 65536) ⌝ }
     ensures { λ n. ⌜ (n ≡ entries h (now (table .entry))) × (n ≤ 327680) ⌝ }
 {
@@ -23,8 +24,8 @@ pub fn entry_count(table: &[u64], h: Header) -> u64
 }
 
 // The members of entry e.
-pub fn entry_size(h: Header, pages: &[u64], counts: &[u32], table: &[u64], e: u64) -> u64
-    requires { ⌜ InRange h × (e ≤ 327680) × (h .p * wide h ≤ length (now pages)) × Told h (now pages) (now counts) × Inside h (placeAt h (now table) e) ⌝ }
+pub fn entry_size(h: Sizes, pages: &[u64], counts: &[u32], table: &[u64], e: u64) -> u64
+    requires { ⌜ InRange h × (e ≤ 327680) × (h .p * wide h ≤ length (now pages)) × BlocksCounted h (now pages) (now counts) × Inside h (placeAt h (now table) e) ⌝ }
     ensures { λ r. ⌜ r ≡ entrySize h (now (pages .entry)) (now (table .entry)) e ⌝ }
 {
     match entry::place_at(table, h, e) {
@@ -35,8 +36,8 @@ pub fn entry_size(h: Header, pages: &[u64], counts: &[u32], table: &[u64], e: u6
 }
 
 // All of them, and the total.
-pub fn put_prefixes(h: Header, pages: &[u64], counts: &[u32], table: &mut [u64]) -> u64
-    requires { ⌜ InRange h × (overCount (now table) ≤ 65536) × (h .p * wide h ≤ length (now pages)) × Told h (now pages) (now counts) × Places h (now table) ⌝ }
+pub fn put_prefixes(h: Sizes, pages: &[u64], counts: &[u32], table: &mut [u64]) -> u64
+    requires { ⌜ InRange h × (overCount (now table) ≤ 65536) × (h .p * wide h ≤ length (now pages)) × BlocksCounted h (now pages) (now counts) × Places h (now table) ⌝ }
     ensures { λ r. ⌜ (r ≡ sumTo (entrySize h (now (pages .entry)) (now (table .entry))) (entries h (now (table .entry)))) × (now (table .exit) ≡ prefixed h (now (table .entry)) (sumTo (entrySize h (now (pages .entry)) (now (table .entry)))) (entries h (now (table .entry)))) ⌝ }
 {
     let n = entry_count(table, h);
@@ -52,7 +53,7 @@ pub fn put_prefixes(h: Header, pages: &[u64], counts: &[u32], table: &mut [u64])
 }
 
 // None of them.
-pub fn clear_prefixes(h: Header, table: &mut [u64])
+pub fn clear_prefixes(h: Sizes, table: &mut [u64])
     requires { ⌜ InRange h × (overCount (now table) ≤ 65536) ⌝ }
     ensures { λ _. ⌜ now (table .exit) ≡ prefixed h (now (table .entry)) (λ _. 0) (entries h (now (table .entry))) ⌝ }
 {

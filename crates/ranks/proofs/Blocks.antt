@@ -11,11 +11,11 @@ use Rattle.sums.proofs.Sums.{last-or}
 use Rattle.dense.specs.Bits.{bitsTo}
 use Rattle.layout.specs.Sizes.{blocksOf}
 use Rattle.layout.specs.Places.{pagePart}
-use Rattle.layout.specs.declared.head.Header.{Header}
+use Rattle.document.specs.declared.sizes.Sizes.{Sizes}
 use Rattle.layout_laws.proofs.Sizes.{slot-inside}
 use Rattle.ranks.specs.Form.{blocked, blockedTo}
 
-module _ (h : Header) (pages : List ℕ) where
+module _ (h : Sizes) (pages : List ℕ) where
   -- ---- one page's
 
   module _ (blocks : List ℕ) (p : ℕ) where

@@ -10,17 +10,18 @@ use Rattle.sums.specs.Sums.{sumTo}
 use Rattle.layout.specs.Mem.{Mem, mem}
 use Rattle.layout.specs.Sizes.{blocksOf, overAt, head, modeAt, overCount}
 use Rattle.layout.specs.Entries.{entries}
-use Rattle.layout.specs.Meaning.{ranked}
+use Rattle.layout.specs.Meaning.{ranked, stateOf}
 use Rattle.layout.specs.Follows.{membersAt, Follows}
 use Rattle.layout.specs.Tests.{Walked, walked}
 use Rattle.layout.specs.SetUp.{Did, did}
-use Rattle.layout.specs.declared.head.Header.{Header}
-use Rattle.layout.specs.declared.answer.Outcome.the-variants.{Done, Refused}
+use Rattle.document.specs.declared.sizes.Sizes.{Sizes}
+use Rattle.document.specs.declared.answer.Outcome.the-variants.{Done, Refused}
 use Rattle.layout_laws.proofs.Sizes.{slot-inside}
 use Rattle.layout_laws.proofs.Walked.{laid-walked, follows-walked}
 use Rattle.layout_laws.proofs.Fresh.{zeroed-at, zeroed-length}
 use Rattle.ranks.specs.Form.{toRanked, toOpen, rankUpBy, openBy}
-use Rattle.ranks.specs.Promise.{Turns, rankUpAnswer, openAnswer}
+use Rattle.document.specs.Answers.{rankUpAnswer, leaveAnswer}
+use Rattle.ranks.proofs.Turns.{Turns}
 use Rattle.ranks.proofs.Prefixes.{recounted}
 use Rattle.ranks.proofs.Blocks.{blocks-length, blocks-at}
 use Rattle.ranks.proofs.Recounts.{Recount, mode-is, head-same, recount-follows, recount-holds, recount-kinds}
@@ -56,7 +57,7 @@ open-refused x =
 
 -- ---- what both write
 
-pub entries-inside : {x : Mem} {h : Header} → Walked x h → overAt h (overCount (x .table)) ≤ length (x .table)
+pub entries-inside : {x : Mem} {h : Sizes} → Walked x h → overAt h (overCount (x .table)) ≤ length (x .table)
 entries-inside w = let r = w .room .in-table in let f = w .over-fits in omega arith
 
 module _ {x : Mem} (w : Walked x (head x)) where
@@ -101,7 +102,7 @@ module _ {x : Mem} (w : Follows x) where
     map = recount-kinds r;
   }
 
-  pub rank-up-says : Turns x (rankUpAnswer x) true (rankUpBy x .answer) (rankUpBy x .after)
+  pub rank-up-says : Turns x (rankUpAnswer (stateOf x)) true (rankUpBy x .answer) (rankUpBy x .after)
   unfolding rankUpBy rankUpAnswer toRanked
   rank-up-says = subst (λ (b : Bool). Said (cond b (tried (ranked x)) (did (Refused 3) x))) (sym (follows-walked w)) (go (ranked x))
     where
@@ -115,8 +116,8 @@ module _ {x : Mem} (w : Follows x) where
       go true = turns-not true 4
       go false = turns-to true (toRanked (head x) x .blocks) (toRanked (head x) x .table) (ranked-recount (laid-walked w))
 
-  pub open-says : Turns x (openAnswer x) false (openBy x .answer) (openBy x .after)
-  unfolding openBy openAnswer toOpen
+  pub open-says : Turns x (leaveAnswer (stateOf x)) false (openBy x .answer) (openBy x .after)
+  unfolding openBy leaveAnswer toOpen
   open-says = subst (λ (b : Bool). Said (cond b (tried (ranked x)) (did (Refused 3) x))) (sym (follows-walked w)) (go (ranked x))
     where
       Said : Did → Type 0

@@ -9,14 +9,14 @@ use lib.Seq.{getD-set-same, getD-set-other}
 use Rattle.sums.proofs.Sums.{last-or}
 use Rattle.layout.specs.Sizes.{directAt, overAt, modeAt, overCount, totalAt}
 use Rattle.layout.specs.Entries.{entries, chunkAt, wordAt, prefixAt, prefixPlace}
-use Rattle.layout.specs.declared.head.Header.{Header}
+use Rattle.document.specs.declared.sizes.Sizes.{Sizes}
 use Rattle.layout.proofs.Entries.{place-below, place-past}
 use Rattle.layout_laws.proofs.Entries.{Which, direct, over, which, chunk-direct, chunk-over, word-direct, word-over}
 use Rattle.ranks.specs.Form.{prefixed, marked}
 
 -- ---- where prefixes stand
 
-module _ (h : Header) where
+module _ (h : Sizes) where
   pub place-direct : (e : ℕ) → e < h .d → prefixPlace h e ≡ directAt e + 1
   place-direct e l = sym (place-below h e l)
 
@@ -124,7 +124,7 @@ module _ (t : List ℕ) (mode total : ℕ) where
 -- ---- both
 
 -- u is t with another mode, total and prefixes
-pub record Recounted (h : Header) (t u : List ℕ) (m k : ℕ) (f : ℕ → ℕ) : Type 0 where
+pub record Recounted (h : Sizes) (t u : List ℕ) (m k : ℕ) (f : ℕ → ℕ) : Type 0 where
   pub long : length u ≡ length t
   pub mode : modeAt u ≡ m
   pub total : totalAt u ≡ k
@@ -136,7 +136,7 @@ pub record Recounted (h : Header) (t u : List ℕ) (m k : ℕ) (f : ℕ → ℕ)
   pub past : (i : ℕ) → overAt h (overCount t) ≤ i → getD u i 0 ≡ getD t i 0
   pub other : (i : ℕ) → i ≢ 6 → i ≢ 8 → ((e : ℕ) → e < entries h t → prefixPlace h e ≢ i) → getD u i 0 ≡ getD t i 0
 
-module _ (h : Header) (t : List ℕ) (f : ℕ → ℕ) (mode total : ℕ) (l : overAt h (overCount t) ≤ length t) where
+module _ (h : Sizes) (t : List ℕ) (f : ℕ → ℕ) (mode total : ℕ) (l : overAt h (overCount t) ≤ length t) where
   abbrev n : ℕ
   n = entries h t
 
@@ -167,7 +167,7 @@ module _ (h : Header) (t : List ℕ) (f : ℕ → ℕ) (mode total : ℕ) (l : o
       }
 
 -- chunk ids and words stay, entry by entry
-module _ {h : Header} {t u : List ℕ} {m k : ℕ} {f : ℕ → ℕ} (r : Recounted h t u m k f) where
+module _ {h : Sizes} {t u : List ℕ} {m k : ℕ} {f : ℕ → ℕ} (r : Recounted h t u m k f) where
   pub over-same : overCount u ≡ overCount t
   over-same = r .header 7 (omega arith) (omega arith) (omega arith)
 

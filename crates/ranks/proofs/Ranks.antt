@@ -16,16 +16,17 @@ use Rattle.sums.proofs.Sums.{sum-bound}
 use Rattle.numbers.specs.Ids.{splitOf}
 use Rattle.dense.proofs.Counts.{bits-le}
 use Rattle.layout.specs.Mem.{Mem}
-use Rattle.layout.specs.Sizes.{InRange, top, head, modeAt}
+use Rattle.document.specs.Sizes.{InRange, top}
+use Rattle.layout.specs.Sizes.{head, modeAt}
 use Rattle.layout.specs.Places.{pagePart}
 use Rattle.layout.specs.Entries.{entries, chunkAt, placeAt, wordOf, placeOf}
-use Rattle.layout.specs.Meaning.{holds, ranked}
+use Rattle.layout.specs.Meaning.{holds, ranked, stateOf}
 use Rattle.layout.specs.Follows.{Owned, sizeOf, membersAt, Follows}
 use Rattle.layout.specs.Tests.{Walked}
-use Rattle.layout.specs.declared.head.Header.{Header}
-use Rattle.layout.specs.declared.answer.Amount.{Amount}
-use Rattle.layout.specs.declared.answer.Amount.the-variants as amount
-use Rattle.layout.specs.declared.answer.Perhaps.the-variants as perhaps
+use Rattle.document.specs.declared.sizes.Sizes.{Sizes}
+use Rattle.document.specs.declared.answer.Amount.{Amount}
+use Rattle.document.specs.declared.answer.Amount.the-variants as amount
+use Rattle.document.specs.declared.answer.Perhaps.the-variants as perhaps
 use Rattle.layout.specs.declared.find.Spot.{Spot}
 use Rattle.layout.specs.declared.place.Place.{Place}
 use Rattle.layout.specs.declared.place.Place.the-variants.{Absent, Sparse, Dense}
@@ -38,23 +39,24 @@ use Rattle.layout_laws.proofs.Members.{listed-of, count-cut, count-rank}
 use Rattle.layout_laws.proofs.Ranks.{entry-cut, first-rank, total-rank}
 use Rattle.calls.specs.Reading.{spotBy, shiftOk}
 use Rattle.ranks.specs.Rank.{belowAt, plus, rankSeat, rankSplit, ifRanked, rankBy, hasSpot, perhapsOf, rankIfSeat, rankIfSplit, rankIfBy, totalBy}
-use Rattle.ranks.specs.Promise.{rankAnswer, perhapsRank, rankIfAnswer, totalAnswer}
+use Rattle.document.specs.Answers.{perhapsRank}
+use Rattle.document.specs.Answers.{rankAnswer, rankIfAnswer, totalAnswer}
 use Rattle.ranks.proofs.Seats.{seat-is}
 use Rattle.ranks.proofs.Within.{below-is, has-is}
 
 -- ---- counts are small
 
-size-small : (h : Header) (x : Mem) → InRange h → (c : ℕ) (p : Place) → Owned h (x .table) c p → sizeOf h (x .pages) p ≤ 33554432
+size-small : (h : Sizes) (x : Mem) → InRange h → (c : ℕ) (p : Place) → Owned h (x .table) c p → sizeOf h (x .pages) p ≤ 33554432
 size-small h x z c Absent u = omega arith
 size-small h x z c (Sparse r l) u = let a = u .short in let b = z .m-high in omega arith
 size-small h x z c (Dense p) u = let a = bits-le (pagePart h (x .pages) p) (top h) in let b : top h ≤ 2 ^ 25 = pow-mono {i = h .s} {j = 25} (z .s-high) in omega arith
 
 -- no entry has more than 2^25 members, so that no sum of them is 2^44
-pub members-small : {x : Mem} {h : Header} → Walked x h → (e : ℕ) → e < entries h (x .table) → membersAt h x e ≤ 33554432
+pub members-small : {x : Mem} {h : Sizes} → Walked x h → (e : ℕ) → e < entries h (x .table) → membersAt h x e ≤ 33554432
 unfolding membersAt
 members-small {x} {h} w e l = size-small h x (w .sizes) (chunkAt h (x .table) e) (placeAt h (x .table) e) (w .places e l)
 
-pub sum-small : {x : Mem} {h : Header} → Walked x h → (e : ℕ) → e ≤ entries h (x .table) → sumTo (membersAt h x) e < 17592186044416
+pub sum-small : {x : Mem} {h : Sizes} → Walked x h → (e : ℕ) → e ≤ entries h (x .table) → sumTo (membersAt h x) e < 17592186044416
 sum-small {x} {h} w e l =
     let z = w .sizes in
     let f = w .over-fits in
@@ -100,8 +102,8 @@ module _ {x : Mem} (w : Follows x) where
       rank-at =
           ap (λ (q : Spot). plus (firstRank x c) (belowAt x o q)) (spot-is (laid-walked w) c)
           ∙ ap (plus (firstRank x c)) (below-is w r c o o-small (placeOf (head x) (x .table) c) (owned-of (laid-walked w) c) (listed-of w c))
-          ∙ ap (λ (b : Bool). cond b (amount.Of (firstRank x c + chunk.belowAt (head x) x (placeOf (head x) (x .table) c) o)) (amount.Refused 3)) (lt-ltb (firstRank x c) (2 ^ 63) (first-small c))
-          ∙ ap amount.Of (sym (count-rank w n ∙ ap (λ (k : ℕ). k + chunk.belowAt (head x) x (placeOf (head x) (x .table) c) o) (first-rank w r c)))
+          ∙ ap (λ (b : Bool). cond b (amount.Of (firstRank x c + chunk.belowIn (head x) x (placeOf (head x) (x .table) c) o)) (amount.Refused 3)) (lt-ltb (firstRank x c) (2 ^ 63) (first-small c))
+          ∙ ap amount.Of (sym (count-rank w n ∙ ap (λ (k : ℕ). k + chunk.belowIn (head x) x (placeOf (head x) (x .table) c) o) (first-rank w r c)))
 
       has-at : hasSpot x o (spotBy x (wordOf (head x) (x .table) c)) ≡ holds x n
       unfolding holds
@@ -133,14 +135,14 @@ module _ {x : Mem} (w : Follows x) where
 
   -- ---- the three calls
 
-  pub rank-is : (z : ℤ) → rankBy x z ≡ rankAnswer x z
+  pub rank-is : (z : ℤ) → rankBy x z ≡ rankAnswer (stateOf x) z
   unfolding rankBy rankAnswer
   rank-is z = if-ranked amount.Refused (rankSplit x (splitOf (head x .s) z)) (amount.Of (rank (holds x) z)) (λ r. rank-split r z)
 
-  pub rank-if-is : (z : ℤ) → rankIfBy x z ≡ rankIfAnswer x z
+  pub rank-if-is : (z : ℤ) → rankIfBy x z ≡ rankIfAnswer (stateOf x) z
   unfolding rankIfBy rankIfAnswer
   rank-if-is z = if-ranked perhaps.Refused (rankIfSplit x (splitOf (head x .s) z)) (perhapsRank (rankIf (holds x) z)) (λ r. rank-if-split r z)
 
-  pub total-is : totalBy x ≡ totalAnswer x
+  pub total-is : totalBy x ≡ totalAnswer (stateOf x)
   unfolding totalBy totalAnswer
   total-is = if-ranked amount.Refused (amount.Of (getD (x .table) 8 0)) (amount.Of (total (holds x))) (λ r. ap amount.Of (total-rank w r))

@@ -13,24 +13,25 @@ use Rattle.sums.proofs.Sums.{sum-ext}
 use Rattle.sums.proofs.Counts.{count-ext, byte-le}
 use Rattle.dense.specs.Bits.{bitsTo}
 use Rattle.layout.specs.Mem.{Mem, mem}
-use Rattle.layout.specs.Sizes.{top, blocksOf, overAt, rowOwnersAt, pageOwnersAt, headerAt, head, overCount}
-use Rattle.layout.specs.Places.{decoded, isSparse, isDense, pagePart, rowOwner, pageOwner}
+use Rattle.document.specs.Sizes.{top}
+use Rattle.layout.specs.Sizes.{blocksOf, overAt, rowOwnersAt, pageOwnersAt, headerAt, head, overCount}
+use Rattle.layout.specs.Places.{decoded, hasRow, hasPage, pagePart, rowOwner, pageOwner}
 use Rattle.layout.specs.Entries.{entries, chunkAt, wordAt, placeAt, beside, wordOf, placeOf}
 use Rattle.layout.specs.Meaning.{offsets, holds, kindOf, kinds, ranked}
 use Rattle.layout.specs.Follows.{Key, Owned, RowListed, sizeOf, membersAt, kept, Laid, Follows}
-use Rattle.layout.specs.declared.head.Header.{Header}
+use Rattle.document.specs.declared.sizes.Sizes.{Sizes}
 use Rattle.layout.specs.declared.place.Place.{Place}
 use Rattle.layout.specs.declared.place.Place.the-variants.{Absent, Sparse, Dense}
 use Rattle.ranks.proofs.Prefixes.{Recounted, over-same, chunk-same, word-same}
 
 -- the counts of a ranked set (b is yes) or of an open one
-pub record Recount (h : Header) (x : Mem) (b : Bool) (bl u : List ℕ) : Type 0 where
+pub record Recount (h : Sizes) (x : Mem) (b : Bool) (bl u : List ℕ) : Type 0 where
   pub told : Recounted h (x .table) u (boolByte b) (cond b (sumTo (membersAt h x) (entries h (x .table))) 0) (λ (e : ℕ). cond b (sumTo (membersAt h x) e) 0)
   pub long : length bl ≡ length (x .blocks)
   pub blocks : (p i : ℕ) → p < h .p → i < blocksOf h → getD bl (p * blocksOf h + i) 0 ≡ cond b (bitsTo (pagePart h (x .pages) p) (512 * i)) 0
 
 -- a chunk's offsets are in the pools alone
-offsets-same : (h : Header) (x : Mem) (bl u : List ℕ) (p : Place) (o : ℕ) → offsets h (mem (x .pages) (x .rows) bl u) p o ≡ offsets h x p o
+offsets-same : (h : Sizes) (x : Mem) (bl u : List ℕ) (p : Place) (o : ℕ) → offsets h (mem (x .pages) (x .rows) bl u) p o ≡ offsets h x p o
 offsets-same h x bl u Absent o = refl
 offsets-same h x bl u (Sparse r l) o = refl
 offsets-same h x bl u (Dense p) o = refl
@@ -39,7 +40,7 @@ is-one : (b : Bool) → eqb (boolByte b) 1 ≡ b
 is-one true = refl
 is-one false = refl
 
-module _ {h : Header} {x : Mem} {b : Bool} {bl u : List ℕ} (r : Recount h x b bl u) where
+module _ {h : Sizes} {x : Mem} {b : Bool} {bl u : List ℕ} (r : Recount h x b bl u) where
   abbrev y : Mem
   y = mem (x .pages) (x .rows) bl u
 
@@ -126,8 +127,8 @@ module _ {h : Header} {x : Mem} {b : Bool} {bl u : List ℕ} (r : Recount h x b 
           lists = λ e l. subst (RowListed h (x .rows)) (sym (place-same e)) (w .lists e (omega arith));
           free-rows = λ i l q. w .free-rows i l (sym (row-owner-same i) ∙ q);
           free-pages = λ i l q. w .free-pages i l (sym (page-owner-same i) ∙ q);
-          rows-used = used-same (rowOwner h) isSparse (h .r) row-owner-same (w .rows-used);
-          pages-used = used-same (pageOwner h) isDense (h .p) page-owner-same (w .pages-used);
+          rows-used = used-same (rowOwner h) hasRow (h .r) row-owner-same (w .rows-used);
+          pages-used = used-same (pageOwner h) hasPage (h .p) page-owner-same (w .pages-used);
           prefixes = λ e l. r .told .prefixes e (omega arith) ∙ kept-is (sumTo (membersAt h x) e) (sumTo (membersAt h y) e) (sym (sum-same e));
           total = r .told .total ∙ kept-is (sumTo (membersAt h x) (entries h (x .table))) (sumTo (membersAt h y) (entries h u)) (sym (sum-same (entries h u) ∙ ap (sumTo (membersAt h x)) entries-same));
           blocks = λ p i l j. r .blocks p i l j ∙ kept-is (bitsTo (pagePart h (x .pages) p) (512 * i)) (bitsTo (pagePart h (x .pages) p) (512 * i)) refl;
@@ -167,10 +168,10 @@ module _ {x : Mem} {b : Bool} {bl u : List ℕ} (r : Recount (head x) x b bl u) 
   pub recount-holds : (n : ℕ) → holds (mem (x .pages) (x .rows) bl u) n ≡ holds x n
   unfolding holds
   recount-holds n =
-      ap (λ (k : Header). offsets k (mem (x .pages) (x .rows) bl u) (placeOf k u (n / top k)) (n % top k)) head-same
+      ap (λ (k : Sizes). offsets k (mem (x .pages) (x .rows) bl u) (placeOf k u (n / top k)) (n % top k)) head-same
       ∙ (ap (λ (q : Place). offsets (head x) (mem (x .pages) (x .rows) bl u) q (n % top (head x))) (ap decoded (word-of-same r (n / top (head x))))
       ∙ offsets-same (head x) x bl u (placeOf (head x) (x .table) (n / top (head x))) (n % top (head x)))
 
   pub recount-kinds : (c : ℕ) → kinds (mem (x .pages) (x .rows) bl u) c ≡ kinds x c
   unfolding kinds
-  recount-kinds c = ap (λ (k : Header). kindOf (placeOf k u c)) head-same ∙ ap (λ (w : ℕ). kindOf (decoded w)) (word-of-same r c)
+  recount-kinds c = ap (λ (k : Sizes). kindOf (placeOf k u c)) head-same ∙ ap (λ (w : ℕ). kindOf (decoded w)) (word-of-same r c)

@@ -13,11 +13,11 @@ use Rattle.layout.specs.Entries.{entries, prefixPlace}
 use Rattle.layout.specs.Follows.{membersAt}
 use Rattle.layout.specs.Tests.{walked}
 use Rattle.layout.specs.SetUp.{Did, did, zeroed}
-use Rattle.layout.specs.declared.head.Header.{Header}
-use Rattle.layout.specs.declared.answer.Outcome.the-variants.{Done, Refused}
+use Rattle.document.specs.declared.sizes.Sizes.{Sizes}
+use Rattle.document.specs.declared.answer.Outcome.the-variants.{Done, Refused}
 
 -- f e as the prefix of entry e, for the first n
-unfoldable pub prefixed : Header → List ℕ → (ℕ → ℕ) → ℕ → List ℕ
+unfoldable pub prefixed : Sizes → List ℕ → (ℕ → ℕ) → ℕ → List ℕ
 prefixed h t f zero = t
 prefixed h t f (suc e) = set (prefixed h t f e) (prefixPlace h e) (f e)
 
@@ -26,21 +26,21 @@ abbrev pub marked : List ℕ → ℕ → ℕ → List ℕ
 marked t mode total = set (set t 8 total) 6 mode
 
 -- the counts of blocks 0 to n - 1 of page p, written from its place on
-unfoldable pub blocked : Header → List ℕ → List ℕ → ℕ → ℕ → List ℕ
+unfoldable pub blocked : Sizes → List ℕ → List ℕ → ℕ → ℕ → List ℕ
 blocked h pages blocks p zero = blocks
 blocked h pages blocks p (suc b) = set (blocked h pages blocks p b) (p * blocksOf h + b) (bitsTo (pagePart h pages p) (512 * b))
 
 -- of pages 0 to n - 1
-unfoldable pub blockedTo : Header → List ℕ → List ℕ → ℕ → List ℕ
+unfoldable pub blockedTo : Sizes → List ℕ → List ℕ → ℕ → List ℕ
 blockedTo h pages blocks zero = blocks
 blockedTo h pages blocks (suc p) = blocked h pages (blockedTo h pages blocks p) p (blocksOf h)
 
-unfoldable pub toRanked : Header → Mem → Mem
+unfoldable pub toRanked : Sizes → Mem → Mem
 toRanked h x =
     mem (x .pages) (x .rows) (blockedTo h (x .pages) (x .blocks) (h .p))
     (marked (prefixed h (x .table) (sumTo (membersAt h x)) (entries h (x .table))) 1 (sumTo (membersAt h x) (entries h (x .table))))
 
-unfoldable pub toOpen : Header → Mem → Mem
+unfoldable pub toOpen : Sizes → Mem → Mem
 toOpen h x =
     mem (x .pages) (x .rows) (zeroed (h .p * blocksOf h) (x .blocks))
     (marked (prefixed h (x .table) (λ (_ : ℕ). 0) (entries h (x .table))) 0 0)

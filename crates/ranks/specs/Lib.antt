@@ -1,3 +1,2 @@
 pub mod Rank
 pub mod Form
-pub mod Promise

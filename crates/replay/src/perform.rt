@@ -2,9 +2,9 @@
 use crate::memory;
 use crate::say;
 use cuts::interval;
-use cuts::plan::Plan;
-use cuts::plan::Planning;
-use cuts::plan::Spanned;
+use document::plan::Plan;
+use document::plan::Planning;
+use document::plan::Spanned;
 use cuts::planning;
 use exports::change;
 use exports::read;

@@ -15,12 +15,14 @@ use Rattle.sums.proofs.Counts.{count-change}
 use Rattle.sparse.specs.Row.{Rising, rowOf, member}
 use Rattle.dense.specs.Bits.{isSet, bitsTo}
 use Rattle.layout.specs.Mem.{Mem}
-use Rattle.layout.specs.Sizes.{top, wide, blocksOf, lastChunk, overAt, head, modeAt, overCount}
-use Rattle.layout.specs.Places.{decoded, isSparse, isDense, rowPart, pagePart, rowOwner, pageOwner}
+use Rattle.document.specs.Sizes.{top, lastChunk}
+use Rattle.layout.specs.Sizes.{wide, blocksOf, overAt, head, modeAt, overCount}
+use Rattle.layout.specs.Places.{decoded, hasRow, hasPage, rowPart, pagePart, rowOwner, pageOwner}
 use Rattle.layout.specs.Entries.{entries, chunkAt, wordAt, prefixAt, placeAt, wordOf, placeOf}
-use Rattle.layout.specs.Meaning.{offsets, holds, Kind, kindOf, kinds, ranked}
+use Rattle.document.specs.State.{Kind}
+use Rattle.layout.specs.Meaning.{offsets, holds, kindOf, kinds, ranked}
 use Rattle.layout.specs.Follows.{AllZero, Key, Owned, Listed, RowListed, membersAt, kept, Laid}
-use Rattle.layout.specs.declared.head.Header.{Header}
+use Rattle.document.specs.declared.sizes.Sizes.{Sizes}
 use Rattle.layout.specs.declared.place.Place.{Place}
 use Rattle.layout.specs.declared.place.Place.the-variants.{Absent, Sparse, Dense}
 use Rattle.layout_laws.proofs.Entries.{chunk-over, word-over, chunk-direct, Which, direct, over, which, laid-ordered, chunk-below, chunk-rising}
@@ -32,19 +34,19 @@ use Rattle.steps.proofs.Puts.{put-rising, put-all, put-zero, put-sum, p
 use Rattle.steps.proofs.Table.{runOf, Wrote, header-kept}
 
 -- a place whose slot is as it was
-abbrev pub Untouched : Header → Mem → Mem → Place → Type 0
+abbrev pub Untouched : Sizes → Mem → Mem → Place → Type 0
 Untouched h x y Absent = Unit
 Untouched h x y (Sparse r l) = (rowOwner h (y .table) r ≡ rowOwner h (x .table) r) × (rowPart h (y .rows) r ≡ rowPart h (x .rows) r)
 Untouched h x y (Dense p) = (pageOwner h (y .table) p ≡ pageOwner h (x .table) p) × (pagePart h (y .pages) p ≡ pagePart h (x .pages) p)
 
-abbrev pub rowsUsed : Header → List ℕ → ℕ
+abbrev pub rowsUsed : Sizes → List ℕ → ℕ
 rowsUsed h t = count (λ (r : ℕ). not (eqb (rowOwner h t r) 0)) (h .r)
 
-abbrev pub pagesUsed : Header → List ℕ → ℕ
+abbrev pub pagesUsed : Sizes → List ℕ → ℕ
 pagesUsed h t = count (λ (p : ℕ). not (eqb (pageOwner h t p) 0)) (h .p)
 
 -- y is x with the word w for chunk c, in a slot that is the chunk's own
-pub record Stepped (h : Header) (x y : Mem) (c w : ℕ) : Type 0 where
+pub record Stepped (h : Sizes) (x y : Mem) (c w : ℕ) : Type 0 where
   pub wrote : Wrote h (x .table) (y .table) c w
   pub some : w ≢ 0
   pub rows-long : length (y .rows) ≡ length (x .rows)
@@ -55,22 +57,22 @@ pub record Stepped (h : Header) (x y : Mem) (c w : ℕ) : Type 0 where
   pub others : (i : ℕ) (q : Place) → i ≢ c → Owned h (x .table) i q → Untouched h x y q
   pub free-rows : (r : ℕ) → r < h .r → rowOwner h (y .table) r ≡ 0 → AllZero (y .rows) (r * h .m) (h .m)
   pub free-pages : (p : ℕ) → p < h .p → pageOwner h (y .table) p ≡ 0 → AllZero (y .pages) (p * wide h) (wide h)
-  pub rows-used : rowsUsed h (y .table) + boolByte (isSparse (placeOf h (x .table) c)) ≡ rowsUsed h (x .table) + boolByte (isSparse (decoded w))
-  pub pages-used : pagesUsed h (y .table) + boolByte (isDense (placeOf h (x .table) c)) ≡ pagesUsed h (x .table) + boolByte (isDense (decoded w))
+  pub rows-used : rowsUsed h (y .table) + boolByte (hasRow (placeOf h (x .table) c)) ≡ rowsUsed h (x .table) + boolByte (hasRow (decoded w))
+  pub pages-used : pagesUsed h (y .table) + boolByte (hasPage (placeOf h (x .table) c)) ≡ pagesUsed h (x .table) + boolByte (hasPage (decoded w))
 
 -- ---- an untouched place
 
-owned-kept : (h : Header) (x y : Mem) (i : ℕ) (q : Place) → Untouched h x y q → Owned h (x .table) i q → Owned h (y .table) i q
+owned-kept : (h : Sizes) (x y : Mem) (i : ℕ) (q : Place) → Untouched h x y q → Owned h (x .table) i q → Owned h (y .table) i q
 owned-kept h x y i Absent u o = tt
 owned-kept h x y i (Sparse r l) u o = record { there = o .there; some = o .some; short = o .short; owner = u .0 ∙ o .owner }
 owned-kept h x y i (Dense p) u o = record { there = o .there; owner = u .0 ∙ o .owner }
 
-listed-kept : (h : Header) (x y : Mem) (q : Place) → Untouched h x y q → RowListed h (x .rows) q → RowListed h (y .rows) q
+listed-kept : (h : Sizes) (x y : Mem) (q : Place) → Untouched h x y q → RowListed h (x .rows) q → RowListed h (y .rows) q
 listed-kept h x y Absent u o = tt
 listed-kept h x y (Sparse r l) u o = subst (λ (row : List ℕ). Listed h row l) (sym (u .1)) o
 listed-kept h x y (Dense p) u o = tt
 
-offsets-kept : (h : Header) (x y : Mem) (q : Place) → Untouched h x y q → (o : ℕ) → offsets h y q o ≡ offsets h x q o
+offsets-kept : (h : Sizes) (x y : Mem) (q : Place) → Untouched h x y q → (o : ℕ) → offsets h y q o ≡ offsets h x q o
 offsets-kept h x y Absent u o = refl
 offsets-kept h x y (Sparse r l) u o = ap (λ (row : List ℕ). member (rowOf row) l o) (u .1)
 offsets-kept h x y (Dense p) u o = ap (λ (page : List ℕ). isSet page o) (u .1)
@@ -85,7 +87,7 @@ rising-ge f n up (suc e) l = let r = rising-ge f n up e (omega arith) in let s =
 kept-none : (y : Mem) (n : ℕ) → ranked y ≡ false → kept y n ≡ 0
 kept-none y n e = ap (λ (b : Bool). cond b n 0) e
 
-module _ (h : Header) (x y : Mem) (c w : ℕ) (L : Laid x h) (mode : ranked x ≡ false) (far : c < lastChunk h) (s : Stepped h x y c w) where
+module _ (h : Sizes) (x y : Mem) (c w : ℕ) (L : Laid x h) (mode : ranked x ≡ false) (far : c < lastChunk h) (s : Stepped h x y c w) where
   up : Rising (chunkAt h (x .table)) (entries h (x .table))
   up = chunk-rising h (x .table) (laid-ordered L)
 
@@ -175,8 +177,8 @@ module _ (h : Header) (x y : Mem) (c w : ℕ) (L : Laid x h) (mode : ranked x �
         lists = list-after;
         free-rows = s .free-rows;
         free-pages = s .free-pages;
-        rows-used = omega (arith, count-after isSparse refl, s .rows-used, L .rows-used);
-        pages-used = omega (arith, count-after isDense refl, s .pages-used, L .pages-used);
+        rows-used = omega (arith, count-after hasRow refl, s .rows-used, L .rows-used);
+        pages-used = omega (arith, count-after hasPage refl, s .pages-used, L .pages-used);
         prefixes = λ e l. prefix-zero e l ∙ sym (kept-none y _ open-after);
         total = s .wrote .header 8 (omega arith) (omega arith) ∙ L .total ∙ kept-none x _ mode ∙ sym (kept-none y _ open-after);
         blocks = λ p b l k. ap (λ (u : List ℕ). getD u (p * blocksOf h + b) 0) (s .blocks) ∙ L .blocks p b l k ∙ kept-none x (bitsTo (pagePart h (x .pages) p) (512 * b)) mode ∙ sym (kept-none y (bitsTo (pagePart h (y .pages) p) (512 * b)) open-after);
@@ -215,7 +217,7 @@ module _ (x y : Mem) (c w : ℕ) (q : Place) (os : Ids) (O : Open x c) (s : Step
 
   kinds-step : (i : ℕ) → kinds y i ≡ cond (eqb i c) (kindOf q) (kinds x i)
   unfolding kinds
-  kinds-step i = ap (λ (h : Header). kindOf (placeOf h (y .table) i)) head-same ∙ ap kindOf (places-step i) ∙ under (eqb i c)
+  kinds-step i = ap (λ (h : Sizes). kindOf (placeOf h (y .table) i)) head-same ∙ ap kindOf (places-step i) ∙ under (eqb i c)
     where
       under : (b : Bool) → kindOf (cond b q (placeOf (head x) (x .table) i)) ≡ cond b (kindOf q) (kindOf (placeOf (head x) (x .table) i))
       under true = refl
@@ -223,7 +225,7 @@ module _ (x y : Mem) (c w : ℕ) (q : Place) (os : Ids) (O : Open x c) (s : Step
 
   holds-step : (n : ℕ) → holds y n ≡ cond (eqb (n / top (head x)) c) (os (n % top (head x))) (holds x n)
   unfolding holds
-  holds-step n = ap (λ (h : Header). offsets h y (placeOf h (y .table) (n / top h)) (n % top h)) head-same ∙ go (same-or (n / top (head x)) c)
+  holds-step n = ap (λ (h : Sizes). offsets h y (placeOf h (y .table) (n / top h)) (n % top h)) head-same ∙ go (same-or (n / top (head x)) c)
     where
       was : Bool
       was = offsets (head x) x (placeOf (head x) (x .table) (n / top (head x))) (n % top (head x))
@@ -265,5 +267,5 @@ still-open x y c i q os O B l =
     record {
       follows = B .follows;
       mode = ap (λ (m : ℕ). eqb m 1) (B .mode-is) ∙ O .mode;
-      chunk = subst (λ (h : Header). i < lastChunk h) (sym (B .head-is)) l;
+      chunk = subst (λ (h : Sizes). i < lastChunk h) (sym (B .head-is)) l;
     }

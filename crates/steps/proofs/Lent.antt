@@ -7,7 +7,7 @@ use lib.ListN.{length, take, drop, replicate, length-take, length-drop}
 use lib.Seq.{drop-drop, drop-length}
 use Rattle.sparse.specs.Edit.{cleared}
 use Rattle.layout.specs.Places.{rowPart}
-use Rattle.layout.specs.declared.head.Header.{Header}
+use Rattle.document.specs.declared.sizes.Sizes.{Sizes}
 use Rattle.layout.specs.Writes.{putPart, putRow}
 
 pub span : (a n : ℕ) → a + n - a ≡ n
@@ -29,7 +29,7 @@ cleared-all : (row : List ℕ) (m : ℕ) → length row ≡ m → cleared row m 
 unfolding cleared
 cleared-all row m e = ap (λ (u : List ℕ). replicate m 0 ++ u) (ap (λ (k : ℕ). drop k row) (sym e) ∙ drop-length row) ∙ append-nil (replicate m 0)
 
-pub free-put : (rows : List ℕ) (h : Header) (r i : ℕ) → i ≡ r * h .m → r * h .m + h .m ≤ length rows → (ys : List ℕ) → ys ≡ cleared (take (i + h .m - i) (drop i rows)) (h .m) → take i rows ++ (ys ++ drop (i + h .m - i) (drop i rows)) ≡ putRow h rows r (replicate (h .m) 0)
+pub free-put : (rows : List ℕ) (h : Sizes) (r i : ℕ) → i ≡ r * h .m → r * h .m + h .m ≤ length rows → (ys : List ℕ) → ys ≡ cleared (take (i + h .m - i) (drop i rows)) (h .m) → take i rows ++ (ys ++ drop (i + h .m - i) (drop i rows)) ≡ putRow h rows r (replicate (h .m) 0)
 free-put rows h r i e l ys f =
     put-lent rows i (h .m) (r * h .m) (h .m) e refl (λ (w : List ℕ). cleared w (h .m)) ys f
     ∙ ap (putRow h rows r) (cleared-all (rowPart h rows r) (h .m) (simp (length-take, length-drop) (omega arith)))

@@ -13,11 +13,11 @@ use Rattle.sums.proofs.Counts.{count-ext}
 use Rattle.dense.specs.Bits.{isSet}
 use Rattle.layout.specs.Mem.{Mem}
 use Rattle.layout.specs.Sizes.{wide, rowOwnersAt, pageOwnersAt, head, overCount}
-use Rattle.layout.specs.Places.{decoded, encoded, isSparse, isDense, rowPart, rowOwner, pageOwner}
+use Rattle.layout.specs.Places.{decoded, encoded, hasRow, hasPage, rowPart, rowOwner, pageOwner}
 use Rattle.layout.specs.Entries.{entries, chunkAt, placeOf}
 use Rattle.layout.specs.Meaning.{offsets}
 use Rattle.layout.specs.Follows.{AllZero, OwnsRow, Owned, RowListed, Laid}
-use Rattle.layout.specs.declared.head.Header.{Header}
+use Rattle.document.specs.declared.sizes.Sizes.{Sizes}
 use Rattle.layout.specs.declared.place.Place.{Place}
 use Rattle.layout.specs.declared.place.Place.the-variants.{Absent, Sparse, Dense}
 use Rattle.layout.proofs.Places.{decoded-encoded-dense}
@@ -37,7 +37,7 @@ use Rattle.steps.proofs.Keeps.{Untouched, rowsUsed, pagesUsed, Stepped,
 
 -- ---- the place that chunk c leaves, its word being written already
 
-module _ (h : Header) (x : Mem) (L : Laid x h) (c w : ℕ) (u : List ℕ) (worded : Worded h (x .table) u c w) where
+module _ (h : Sizes) (x : Mem) (L : Laid x h) (c w : ℕ) (u : List ℕ) (worded : Worded h (x .table) u c w) where
   room-for : (r : ℕ) → r < h .r → r * h .m + h .m ≤ length (x .rows)
   room-for r l = slot-in (h .m) (h .r) r (length (x .rows)) l (L .room .in-rows)
 
@@ -90,7 +90,7 @@ module _ (h : Header) (x : Mem) (L : Laid x h) (c w : ℕ) (u : List ℕ) (worde
   rows-alike : (t : List ℕ) → ((j : ℕ) → j < h .r → rowOwner h t j ≡ rowOwner h (x .table) j) → rowsUsed h t ≡ rowsUsed h (x .table)
   rows-alike t f = count-ext (λ (j : ℕ). not (eqb (rowOwner h t j) 0)) (λ (j : ℕ). not (eqb (rowOwner h (x .table) j) 0)) (h .r) (λ j m. ap (λ (v : ℕ). not (eqb v 0)) (f j m))
 
-  left-count : (q : Place) → Owned h (x .table) c q → rowsUsed h (leftOwner h u q) + boolByte (isSparse q) ≡ rowsUsed h (x .table)
+  left-count : (q : Place) → Owned h (x .table) c q → rowsUsed h (leftOwner h u q) + boolByte (hasRow q) ≡ rowsUsed h (x .table)
   left-count Absent o = let a = rows-alike u (λ j m. row-same j) in omega arith
   left-count (Sparse r l) o =
       let a = used-change (rowOwner h (x .table)) (rowOwner h (putRowOwner h u r 0)) r (h .r) (o .there) (λ j m d. left-off r j d) in
@@ -99,7 +99,7 @@ module _ (h : Header) (x : Mem) (L : Laid x h) (c w : ℕ) (u : List ℕ) (worde
 
 -- ---- the step
 
-module _ (h : Header) (x : Mem) (L : Laid x h) (c : ℕ) (old : Place) (p : ℕ) (page : List ℕ) (old-is : old ≡ placeOf h (x .table) c) (there : p < h .p) (long : length page ≡ wide h) (came : PageFor h (x .table) c old p) where
+module _ (h : Sizes) (x : Mem) (L : Laid x h) (c : ℕ) (old : Place) (p : ℕ) (page : List ℕ) (old-is : old ≡ placeOf h (x .table) c) (there : p < h .p) (long : length page ≡ wide h) (came : PageFor h (x .table) c old p) where
   w : ℕ
   w = encoded (Dense p)
 
@@ -177,29 +177,29 @@ module _ (h : Header) (x : Mem) (L : Laid x h) (c : ℕ) (old : Place) (p : ℕ)
       go (inl e) = absurd (let a = ap (pageOwner h (y .table)) e in let b = owner-here in omega arith)
       go (inr d) = zero-kept (x .pages) (wide h) p page long room j d (L .free-pages j m (sym (page-off j d) ∙ z))
 
-  rows-count : rowsUsed h (y .table) + boolByte (isSparse (placeOf h (x .table) c)) ≡ rowsUsed h (x .table) + boolByte (isSparse (decoded w))
+  rows-count : rowsUsed h (y .table) + boolByte (hasRow (placeOf h (x .table) c)) ≡ rowsUsed h (x .table) + boolByte (hasRow (decoded w))
   rows-count =
       let a = count-ext (λ (j : ℕ). not (eqb (rowOwner h (y .table) j) 0)) (λ (j : ℕ). not (eqb (rowOwner h (leftOwner h t old) j) 0)) (h .r) (λ j m. ap (λ (v : ℕ). not (eqb v 0)) (row-left j m)) in
-      let b = ap (λ (q : Place). boolByte (isSparse q)) old-is in
-      let e = ap (λ (q : Place). boolByte (isSparse q)) word-is in
+      let b = ap (λ (q : Place). boolByte (hasRow q)) old-is in
+      let e = ap (λ (q : Place). boolByte (hasRow q)) word-is in
       omega (arith, left-count h x L c w t worded old mine)
 
-  pages-change : pagesUsed h (y .table) + boolByte (not (eqb (pageOwner h (x .table) p) 0)) ≡ pagesUsed h (x .table) + boolByte (isDense (decoded w))
+  pages-change : pagesUsed h (y .table) + boolByte (not (eqb (pageOwner h (x .table) p) 0)) ≡ pagesUsed h (x .table) + boolByte (hasPage (decoded w))
   pages-change =
       let a = used-change (pageOwner h (x .table)) (pageOwner h (y .table)) p (h .p) there (λ j m d. page-off j d) in
-      let b = ap (λ (q : Place). boolByte (isDense q)) word-is in
+      let b = ap (λ (q : Place). boolByte (hasPage q)) word-is in
       omega (arith, taken (pageOwner h (y .table) p) c owner-here)
 
-  pages-count : pagesUsed h (y .table) + boolByte (isDense (placeOf h (x .table) c)) ≡ pagesUsed h (x .table) + boolByte (isDense (decoded w))
+  pages-count : pagesUsed h (y .table) + boolByte (hasPage (placeOf h (x .table) c)) ≡ pagesUsed h (x .table) + boolByte (hasPage (decoded w))
   pages-count = go came
     where
-      go : PageFor h (x .table) c old p → pagesUsed h (y .table) + boolByte (isDense (placeOf h (x .table) c)) ≡ pagesUsed h (x .table) + boolByte (isDense (decoded w))
+      go : PageFor h (x .table) c old p → pagesUsed h (y .table) + boolByte (hasPage (placeOf h (x .table) c)) ≡ pagesUsed h (x .table) + boolByte (hasPage (decoded w))
       go (new-page n o f) =
-          let a = ap (λ (q : Place). boolByte (isDense q)) old-is in
+          let a = ap (λ (q : Place). boolByte (hasPage q)) old-is in
           let b = ap boolByte n in
           omega (arith, pages-change, not-taken (pageOwner h (x .table) p) o)
       go (own-page q) =
-          let a = ap (λ (q : Place). boolByte (isDense q)) (sym old-is ∙ q) in
+          let a = ap (λ (q : Place). boolByte (hasPage q)) (sym old-is ∙ q) in
           omega (arith, pages-change, taken (pageOwner h (x .table) p) c (own-owner q))
 
   pub page-stepped : Stepped h x (paged h x c old p page) c (encoded (Dense p))

@@ -13,11 +13,11 @@ use Rattle.sums.proofs.Counts.{count-ext}
 use Rattle.sparse.specs.Row.{rowOf, member}
 use Rattle.layout.specs.Mem.{Mem}
 use Rattle.layout.specs.Sizes.{wide, rowOwnersAt, pageOwnersAt, head, overCount}
-use Rattle.layout.specs.Places.{decoded, encoded, isSparse, isDense, rowOwner, pageOwner}
+use Rattle.layout.specs.Places.{decoded, encoded, hasRow, hasPage, rowOwner, pageOwner}
 use Rattle.layout.specs.Entries.{entries, chunkAt, placeOf}
 use Rattle.layout.specs.Meaning.{offsets}
 use Rattle.layout.specs.Follows.{AllZero, Owned, Listed, RowListed, Laid}
-use Rattle.layout.specs.declared.head.Header.{Header}
+use Rattle.document.specs.declared.sizes.Sizes.{Sizes}
 use Rattle.layout.specs.declared.place.Place.{Place}
 use Rattle.layout.specs.declared.place.Place.the-variants.{Absent, Sparse, Dense}
 use Rattle.layout.proofs.Places.{decoded-encoded-sparse}
@@ -34,7 +34,7 @@ use Rattle.steps.proofs.Words.{put-word}
 use Rattle.steps.proofs.Slots.{entry-free, entry-none, taken, not-taken, used-change}
 use Rattle.steps.proofs.Keeps.{Untouched, rowsUsed, pagesUsed, Stepped, becomes}
 
-module _ (h : Header) (x : Mem) (L : Laid x h) (c r l : ℕ) (row : List ℕ) (there : r < h .r) (some : 1 ≤ l) (short : l ≤ h .m) (long : length row ≡ h .m) (listed : Listed h row l) (came : RowFor h (x .table) c r) where
+module _ (h : Sizes) (x : Mem) (L : Laid x h) (c r l : ℕ) (row : List ℕ) (there : r < h .r) (some : 1 ≤ l) (short : l ≤ h .m) (long : length row ≡ h .m) (listed : Listed h row l) (came : RowFor h (x .table) c r) where
   -- the word, and the table with it
   w : ℕ
   w = encoded (Sparse r l)
@@ -110,33 +110,33 @@ module _ (h : Header) (x : Mem) (L : Laid x h) (c r l : ℕ) (row : List ℕ) (t
   unfolding y rowed
   pages-free p m z = L .free-pages p m (sym (page-same p) ∙ z)
 
-  rows-change : rowsUsed h (y .table) + boolByte (not (eqb (rowOwner h (x .table) r) 0)) ≡ rowsUsed h (x .table) + boolByte (isSparse (decoded w))
+  rows-change : rowsUsed h (y .table) + boolByte (not (eqb (rowOwner h (x .table) r) 0)) ≡ rowsUsed h (x .table) + boolByte (hasRow (decoded w))
   rows-change =
       let a = used-change (rowOwner h (x .table)) (rowOwner h (y .table)) r (h .r) there (λ j m d. row-off j d) in
-      let b = ap (λ (q : Place). boolByte (isSparse q)) word-is in
+      let b = ap (λ (q : Place). boolByte (hasRow q)) word-is in
       omega (arith, taken (rowOwner h (y .table) r) c owner-here)
 
-  rows-count : rowsUsed h (y .table) + boolByte (isSparse (placeOf h (x .table) c)) ≡ rowsUsed h (x .table) + boolByte (isSparse (decoded w))
+  rows-count : rowsUsed h (y .table) + boolByte (hasRow (placeOf h (x .table) c)) ≡ rowsUsed h (x .table) + boolByte (hasRow (decoded w))
   rows-count = go came
     where
-      go : RowFor h (x .table) c r → rowsUsed h (y .table) + boolByte (isSparse (placeOf h (x .table) c)) ≡ rowsUsed h (x .table) + boolByte (isSparse (decoded w))
-      go (new-row q o f) = let a = ap (λ (q : Place). boolByte (isSparse q)) q in omega (arith, rows-change, not-taken (rowOwner h (x .table) r) o)
+      go : RowFor h (x .table) c r → rowsUsed h (y .table) + boolByte (hasRow (placeOf h (x .table) c)) ≡ rowsUsed h (x .table) + boolByte (hasRow (decoded w))
+      go (new-row q o f) = let a = ap (λ (q : Place). boolByte (hasRow q)) q in omega (arith, rows-change, not-taken (rowOwner h (x .table) r) o)
       go (own-row k q) =
-          let a = ap (λ (q : Place). boolByte (isSparse q)) q in
+          let a = ap (λ (q : Place). boolByte (hasRow q)) q in
           omega (arith, rows-change, taken (rowOwner h (x .table) r) c (own-owner k q))
 
-  not-dense : isDense (placeOf h (x .table) c) ≡ false
+  not-dense : hasPage (placeOf h (x .table) c) ≡ false
   not-dense = go came
     where
-      go : RowFor h (x .table) c r → isDense (placeOf h (x .table) c) ≡ false
-      go (new-row q o f) = ap isDense q
-      go (own-row k q) = ap isDense q
+      go : RowFor h (x .table) c r → hasPage (placeOf h (x .table) c) ≡ false
+      go (new-row q o f) = ap hasPage q
+      go (own-row k q) = ap hasPage q
 
-  pages-count : pagesUsed h (y .table) + boolByte (isDense (placeOf h (x .table) c)) ≡ pagesUsed h (x .table) + boolByte (isDense (decoded w))
+  pages-count : pagesUsed h (y .table) + boolByte (hasPage (placeOf h (x .table) c)) ≡ pagesUsed h (x .table) + boolByte (hasPage (decoded w))
   pages-count =
       let a = count-ext (λ (p : ℕ). not (eqb (pageOwner h (y .table) p) 0)) (λ (p : ℕ). not (eqb (pageOwner h (x .table) p) 0)) (h .p) (λ p m. ap (λ (v : ℕ). not (eqb v 0)) (page-same p)) in
       let b = ap boolByte not-dense in
-      let e = ap (λ (q : Place). boolByte (isDense q)) word-is in
+      let e = ap (λ (q : Place). boolByte (hasPage q)) word-is in
       omega arith
 
   pub row-stepped : Stepped h x (rowed h x c r l row) c (encoded (Sparse r l))

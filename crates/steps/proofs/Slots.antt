@@ -13,14 +13,14 @@ use Rattle.sums.proofs.Counts.{count-change}
 use Rattle.layout.specs.Sizes.{overCount}
 use Rattle.layout.specs.Places.{decoded}
 use Rattle.layout.specs.Entries.{entries, chunkAt, placeOf}
-use Rattle.layout.specs.declared.head.Header.{Header}
+use Rattle.document.specs.declared.sizes.Sizes.{Sizes}
 use Rattle.layout.specs.declared.place.Place.the-variants.{Absent}
 use Rattle.layout_laws.proofs.Entries.{chunk-direct, word-of-none}
 use Rattle.steps.specs.Effects.{EntryFor}
 
 -- ---- room for an entry
 
-module _ (h : Header) (t : List ℕ) (c : ℕ) (none : (e : ℕ) → e < entries h t → chunkAt h t e ≢ c) where
+module _ (h : Sizes) (t : List ℕ) (c : ℕ) (none : (e : ℕ) → e < entries h t → chunkAt h t e ≢ c) where
   -- a chunk without an entry is not direct
   pub entry-free : EntryFor h t c → overCount t < h .v
   entry-free f = go (ltb c (h .d)) refl

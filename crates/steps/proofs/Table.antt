@@ -8,17 +8,17 @@ use lib.ListN.{length, getD, set, length-set}
 use lib.Seq.{getD-set-same, getD-set-other}
 use Rattle.layout.specs.Sizes.{directAt, overAt, rowOwnersAt, tableSize, overCount, headerAt}
 use Rattle.layout.specs.Entries.{entries, chunkAt, wordAt, prefixAt}
-use Rattle.layout.specs.declared.head.Header.{Header}
+use Rattle.document.specs.declared.sizes.Sizes.{Sizes}
 use Rattle.layout_laws.proofs.Entries.{chunk-direct, word-direct, prefix-direct, chunk-over, word-over, prefix-over, Which, direct, over, which}
 use Rattle.steps.proofs.Puts as puts
 use Rattle.steps.proofs.Puts.{Run, Put, Alike, put-alike}
 
 -- the directory of a table
-abbrev pub runOf : Header → List ℕ → Run
+abbrev pub runOf : Sizes → List ℕ → Run
 runOf h t = record { size = entries h t; key = chunkAt h t; word = wordAt h t; prefix = prefixAt h t }
 
 -- the word w put for chunk c, owners aside
-pub record Wrote (h : Header) (t t′ : List ℕ) (c w : ℕ) : Type 0 where
+pub record Wrote (h : Sizes) (t t′ : List ℕ) (c w : ℕ) : Type 0 where
   pub len : length t′ ≡ length t
   pub header : (i : ℕ) → i < 16 → i ≢ 7 → getD t′ i 0 ≡ getD t i 0
   pub more : overCount t ≤ overCount t′
@@ -27,18 +27,18 @@ pub record Wrote (h : Header) (t t′ : List ℕ) (c w : ℕ) : Type 0 where
   pub put : Put (runOf h t) (runOf h t′) c w
 
 -- and the owners as they were
-pub record Worded (h : Header) (t t′ : List ℕ) (c w : ℕ) : Type 0 where
+pub record Worded (h : Sizes) (t t′ : List ℕ) (c w : ℕ) : Type 0 where
   pub wrote : Wrote h t t′ c w
   pub owners : (i : ℕ) → rowOwnersAt h ≤ i → getD t′ i 0 ≡ getD t i 0
 
-pub header-kept : (h : Header) (t t′ : List ℕ) (c w : ℕ) → Wrote h t t′ c w → headerAt t′ ≡ headerAt t
+pub header-kept : (h : Sizes) (t t′ : List ℕ) (c w : ℕ) → Wrote h t t′ c w → headerAt t′ ≡ headerAt t
 header-kept h t t′ c w u =
     let k = u .header in
     rw (k 0 (omega arith) (omega arith), k 1 (omega arith) (omega arith), k 2 (omega arith) (omega arith), k 3 (omega arith) (omega arith), k 4 (omega arith) (omega arith), k 5 (omega arith) (omega arith))
 
 -- ---- equal where it stands, equal as it is read
 
-module _ (h : Header) (t t′ : List ℕ) (e : ℕ) where
+module _ (h : Sizes) (t t′ : List ℕ) (e : ℕ) where
   pub chunk-same : ((j : ℕ) → e ≡ h .d + j → getD t′ (overAt h j) 0 ≡ getD t (overAt h j) 0) → chunkAt h t′ e ≡ chunkAt h t e
   chunk-same f = go (which (h .d) e)
     where
@@ -63,7 +63,7 @@ module _ (h : Header) (t t′ : List ℕ) (e : ℕ) where
 -- ---- an owner
 
 -- past the entries nothing of the directory stands
-pub owner-alike : (h : Header) (u : List ℕ) (i v : ℕ) → overCount u ≤ h .v → rowOwnersAt h ≤ i → Alike (runOf h u) (runOf h (set u i v))
+pub owner-alike : (h : Sizes) (u : List ℕ) (i v : ℕ) → overCount u ≤ h .v → rowOwnersAt h ≤ i → Alike (runOf h u) (runOf h (set u i v))
 owner-alike h u i v f l =
     let off : (j : ℕ) → j < rowOwnersAt h → getD (set u i v) j 0 ≡ getD u j 0 = λ j m. getD-set-other u i j v 0 (omega arith) in
     record {
@@ -73,7 +73,7 @@ owner-alike h u i v f l =
       prefixes = λ e m. prefix-same h u (set u i v) e (λ q. off (directAt e + 1) (omega arith)) (λ j q. off (overAt h j + 2) (omega arith));
     }
 
-pub owner-set : (h : Header) (t u : List ℕ) (c w i v : ℕ) → Wrote h t u c w → rowOwnersAt h ≤ i → Wrote h t (set u i v) c w
+pub owner-set : (h : Sizes) (t u : List ℕ) (c w i v : ℕ) → Wrote h t u c w → rowOwnersAt h ≤ i → Wrote h t (set u i v) c w
 owner-set h t u c w i v z l =
     let f = z .fits in
     let off : (j : ℕ) → j < rowOwnersAt h → getD (set u i v) j 0 ≡ getD u j 0 = λ j m. getD-set-other u i j v 0 (omega arith) in
@@ -90,11 +90,11 @@ owner-set h t u c w i v z l =
 -- ---- an entry that is there
 
 -- where entry e's word stands
-abbrev wordPlace : (h : Header) (e : ℕ) → Which (h .d) e → ℕ
+abbrev wordPlace : (h : Sizes) (e : ℕ) → Which (h .d) e → ℕ
 wordPlace h e (direct l) = directAt e
 wordPlace h e (over j q) = overAt h j + 1
 
-module _ (h : Header) (e : ℕ) where
+module _ (h : Sizes) (e : ℕ) where
   place-low : (s : Which (h .d) e) → 16 ≤ wordPlace h e s
   place-low (direct l) = omega arith
   place-low (over j q) = omega arith
@@ -123,11 +123,11 @@ module _ (h : Header) (e : ℕ) where
   no-direct-word (direct l) j m d = omega arith
   no-direct-word (over i q) j m d = omega arith
 
-word-here : (h : Header) (t : List ℕ) (e : ℕ) (s : Which (h .d) e) → wordAt h t e ≡ getD t (wordPlace h e s) 0
+word-here : (h : Sizes) (t : List ℕ) (e : ℕ) (s : Which (h .d) e) → wordAt h t e ≡ getD t (wordPlace h e s) 0
 word-here h t e (direct l) = word-direct h t e l
 word-here h t e (over j q) = ap (wordAt h t) q ∙ word-over h t j
 
-module _ (h : Header) (t : List ℕ) (room : tableSize h ≤ length t) (fits : overCount t ≤ h .v) (e : ℕ) (s : Which (h .d) e) (l : e < entries h t) (w : ℕ) where
+module _ (h : Sizes) (t : List ℕ) (room : tableSize h ≤ length t) (fits : overCount t ≤ h .v) (e : ℕ) (s : Which (h .d) e) (l : e < entries h t) (w : ℕ) where
   off : (i : ℕ) → i ≢ wordPlace h e s → getD (set t (wordPlace h e s) w) i 0 ≡ getD t i 0
   off i d = getD-set-other t (wordPlace h e s) i w 0 d
 

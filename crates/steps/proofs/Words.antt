@@ -13,7 +13,7 @@ use Rattle.sums.proofs.Sums.{Inserted}
 use Rattle.layout.specs.Sizes.{directAt, overAt, tableSize, overCount}
 use Rattle.layout.specs.Entries.{entries, chunkAt, wordAt, prefixAt}
 use Rattle.layout.specs.Short.{overPlace}
-use Rattle.layout.specs.declared.head.Header.{Header}
+use Rattle.document.specs.declared.sizes.Sizes.{Sizes}
 use Rattle.layout_laws.proofs.Keys.{Cut, cut-missed}
 use Rattle.layout_laws.proofs.Halving.{lower-first}
 use Rattle.layout_laws.proofs.Entries.{chunk-direct, word-direct, prefix-direct, chunk-over, word-over, prefix-over, Which, direct, over, which, Ordered}
@@ -25,7 +25,7 @@ use Rattle.steps.proofs.Table.{Worded, word-set}
 
 -- ---- a cut of the overflow entries is one of all entries
 
-module _ (h : Header) (t : List ℕ) (c k : ℕ) (ge : h .d ≤ c) (cut : Cut (λ (j : ℕ). getD t (overAt h j) 0) (overCount t) k c) (none : (j : ℕ) → j < overCount t → getD t (overAt h j) 0 ≢ c) where
+module _ (h : Sizes) (t : List ℕ) (c k : ℕ) (ge : h .d ≤ c) (cut : Cut (λ (j : ℕ). getD t (overAt h j) 0) (overCount t) k c) (none : (j : ℕ) → j < overCount t → getD t (overAt h j) 0 ≢ c) where
   cut-entries : Cut (chunkAt h t) (entries h t) (h .d + k) c
   cut-entries =
       record {
@@ -51,7 +51,7 @@ module _ (h : Header) (t : List ℕ) (c k : ℕ) (ge : h .d ≤ c) (cut : Cut (�
 
 -- ---- a new overflow entry
 
-module _ (h : Header) (t : List ℕ) (c w k : ℕ) (le : k ≤ overCount t) (room : overAt h (overCount t + 1) ≤ length t) where
+module _ (h : Sizes) (t : List ℕ) (c w k : ℕ) (le : k ≤ overCount t) (room : overAt h (overCount t + 1) ≤ length t) where
   -- a column of the directory, whose overflow part stands at place
   column : (f g place : ℕ → ℕ) (q v : ℕ) → q < 3 → ((j : ℕ) → place j ≡ overAt h j + q) → ((j : ℕ) → f (h .d + j) ≡ getD t (place j) 0) → ((j : ℕ) → g (h .d + j) ≡ getD (added h t c w k) (place j) 0) →
       ((j : ℕ) → j < h .d → g j ≡ f j) → getD (added h t c w k) (place k) 0 ≡ v → Inserted f g (h .d + k) (entries h t) v
@@ -110,7 +110,7 @@ module _ (h : Header) (t : List ℕ) (c w k : ℕ) (le : k ≤ overCount t) (roo
 
 -- ---- all three
 
-module _ (h : Header) (t : List ℕ) (o : Ordered h t) (room : tableSize h ≤ length t) (fits : overCount t ≤ h .v) (c w : ℕ)
+module _ (h : Sizes) (t : List ℕ) (o : Ordered h t) (room : tableSize h ≤ length t) (fits : overCount t ≤ h .v) (c w : ℕ)
     (free : ((e : ℕ) → e < entries h t → chunkAt h t e ≢ c) → overCount t < h .v) where
   over-put : (k : ℕ) → h .d ≤ c → Cut (λ (j : ℕ). getD t (overAt h j) 0) (overCount t) k c → Worded h t (overPut h t c w k) c w
   over-put k ge cut = go (ltb k (overCount t)) refl (eqb (getD t (overAt h k) 0) c) refl

@@ -8,12 +8,14 @@ use lib.Dec.{eqb}
 use mir.Val.{boolByte}
 use Rattle.sums.specs.Ids.{Ids, count}
 use Rattle.layout.specs.Mem.{Mem}
-use Rattle.layout.specs.Sizes.{top, wide, lastChunk, head, modeAt, overCount}
-use Rattle.layout.specs.Places.{isDense, rowOwner, pageOwner}
+use Rattle.document.specs.Sizes.{top, lastChunk}
+use Rattle.layout.specs.Sizes.{wide, head, modeAt, overCount}
+use Rattle.layout.specs.Places.{hasPage, rowOwner, pageOwner}
 use Rattle.layout.specs.Entries.{placeOf}
-use Rattle.layout.specs.Meaning.{holds, Kind, kindOf, kinds, ranked}
+use Rattle.document.specs.State.{Kind}
+use Rattle.layout.specs.Meaning.{holds, kindOf, kinds, ranked}
 use Rattle.layout.specs.Follows.{Listed, Follows}
-use Rattle.layout.specs.declared.head.Header.{Header}
+use Rattle.document.specs.declared.sizes.Sizes.{Sizes}
 use Rattle.layout.specs.declared.place.Place.{Place}
 use Rattle.layout.specs.declared.place.Place.the-variants.{Absent, Sparse, Dense}
 
@@ -24,11 +26,11 @@ pub record Open (x : Mem) (c : ℕ) : Type 0 where
   pub chunk : c < lastChunk (head x)
 
 -- room for chunk c's entry: a direct one, or a spare overflow entry
-abbrev pub EntryFor : Header → List ℕ → ℕ → Type 0
+abbrev pub EntryFor : Sizes → List ℕ → ℕ → Type 0
 EntryFor h t c = h .d ≤ c → overCount t < h .v
 
 -- a free row for a chunk that is absent, or the chunk's own row
-pub data RowFor (h : Header) (t : List ℕ) (c r : ℕ) : Type 0 where
+pub data RowFor (h : Sizes) (t : List ℕ) (c r : ℕ) : Type 0 where
   new-row : placeOf h t c ≡ Absent → rowOwner h t r ≡ 0 → EntryFor h t c → RowFor h t c r
   own-row : (l : ℕ) → placeOf h t c ≡ Sparse r l → RowFor h t c r
 
@@ -42,8 +44,8 @@ pub record RowedOk (x : Mem) (c r l : ℕ) (row : List ℕ) : Type 0 where
   pub came : RowFor (head x) (x .table) c r
 
 -- a free page for a chunk that is not dense, or the chunk's own page
-pub data PageFor (h : Header) (t : List ℕ) (c : ℕ) (old : Place) (p : ℕ) : Type 0 where
-  new-page : isDense old ≡ false → pageOwner h t p ≡ 0 → (old ≡ Absent → EntryFor h t c) → PageFor h t c old p
+pub data PageFor (h : Sizes) (t : List ℕ) (c : ℕ) (old : Place) (p : ℕ) : Type 0 where
+  new-page : hasPage old ≡ false → pageOwner h t p ≡ 0 → (old ≡ Absent → EntryFor h t c) → PageFor h t c old p
   own-page : old ≡ Dense p → PageFor h t c old p
 
 pub record PagedOk (x : Mem) (c : ℕ) (old : Place) (p : ℕ) (page : List ℕ) : Type 0 where

@@ -1,4 +1,4 @@
--- Every row of document 01's cases e to i holds: a row with its answers computed from its list holds by the laws of listed sets, and the table is its own rows so computed. Assumes nothing.
+-- Every row of document 01's cases e to i holds: a row with its answers computed from its list holds by the laws of listed sets, and the plainTable is its own rows so computed. Assumes nothing.
 use mathlib.Core.Path.{_≡_, refl}
 use mathlib.Core.Logic.{⊎-elim}
 use mathlib.Core.Bool.{Bool, true, cond, _&&_}
@@ -9,12 +9,12 @@ use borrow.Author.Tests.{ltb-true}
 use lib.IntN.{sucℤ}
 use Rattle.sums.specs.Ids.{has, total, RankIf, ranked}
 use Rattle.sums.specs.Cuts.{size, parts}
-use Rattle.sums.specs.Cases.{setOf, Case, rankOf, rankIfOf, partsOf, boundariesOf, partOf, rangeOf, PartIs, Says, table}
+use Rattle.sums.specs.Cases.{setOf, PlainCase, rankOf, rankIfOf, partsOf, boundariesOf, partOf, rangeOf, PartIs, PlainSays, plainTable}
 use Rattle.sums.proofs.Rules.{both}
 use Rattle.sums.proofs.Listed.{rises, below, rankIn, partsIn, boundariesIn, lowIn, highIn, rank-listed, rankIf-listed, range-listed, parts-listed, boundaries-listed, part-listed, held-listed}
 
 -- the row with its answers computed
-abbrev computed : Case → Case
+abbrev computed : PlainCase → PlainCase
 computed (rankOf xs x r) = rankOf xs x (rankIn xs x)
 computed (rankIfOf xs x a) = rankIfOf xs x (cond (has (setOf xs) x) (ranked (rankIn xs x)) RankIf.none)
 computed (partsOf xs S n) = partsOf xs S (partsIn xs S)
@@ -23,7 +23,7 @@ computed (partOf xs S k low high r n) = partOf xs S k (lowIn xs S k) (highIn xs 
 computed (rangeOf xs lo hi b) = rangeOf xs lo hi (ltb (rankIn xs lo) (rankIn xs (sucℤ hi)))
 
 -- its list rises, and its part is there
-abbrev proper : Case → Bool
+abbrev proper : PlainCase → Bool
 proper (rankOf xs x r) = rises xs
 proper (rankIfOf xs x a) = rises xs
 proper (partsOf xs S n) = rises xs
@@ -37,7 +37,7 @@ part-says xs S k u t = record { there = l; ends = part-listed xs u S k l; first 
     l : k < parts (total (setOf xs)) S
     l = rw (parts-listed xs u S) (ltb-true k (partsIn xs S) t)
 
-computed-says : (c : Case) → proper c ≡ true → Says (computed c)
+computed-says : (c : PlainCase) → proper c ≡ true → PlainSays (computed c)
 computed-says (rankOf xs x r) u = rank-listed xs u x
 computed-says (rankIfOf xs x a) u = rankIf-listed xs u x
 computed-says (partsOf xs S n) u = parts-listed xs u S
@@ -45,15 +45,15 @@ computed-says (boundariesOf xs S bs) u = boundaries-listed xs u S
 computed-says (partOf xs S k low high r n) u = let b = both (rises xs) (ltb k (partsIn xs S)) u in part-says xs S k (b .0) (b .1)
 computed-says (rangeOf xs lo hi b) u = range-listed xs u lo hi
 
-abbrev allComputed : List Case → List Case
+abbrev allComputed : List PlainCase → List PlainCase
 allComputed [] = []
 allComputed (c ∷ cs) = computed c ∷ allComputed cs
 
-abbrev allProper : List Case → Bool
+abbrev allProper : List PlainCase → Bool
 allProper [] = true
 allProper (c ∷ cs) = proper c && allProper cs
 
-all-say : (cs : List Case) → allComputed cs ≡ cs → allProper cs ≡ true → (c : Case) → List·Memᴰ c cs → Says c
+all-say : (cs : List PlainCase) → allComputed cs ≡ cs → allProper cs ≡ true → (c : PlainCase) → List·Memᴰ c cs → PlainSays c
 all-say [] e u c m = absurd (List·Memᴰ·not-nil m)
 all-say (x ∷ xs) e u c m =
     let b = both (proper x) (allProper xs) u in
@@ -61,10 +61,10 @@ all-say (x ∷ xs) e u c m =
     let t : allComputed xs ≡ xs = cc in
     ⊎-elim (λ (q : c ≡ x). rw q (rw h at (computed-says x (b .0)))) (λ (n : List·Memᴰ c xs). all-say xs t (b .1) c n) (List·Memᴰ·cases-cons m)
 
-table-computed : allComputed table ≡ table
+table-computed : allComputed plainTable ≡ plainTable
 unfolding setOf
 table-computed = refl
 
--- every row of the table holds
-pub cases : (c : Case) → List·Memᴰ c table → Says c
-cases = all-say table table-computed refl
+-- every row of the plainTable holds
+pub cases : (c : PlainCase) → List·Memᴰ c plainTable → PlainSays c
+cases = all-say plainTable table-computed refl

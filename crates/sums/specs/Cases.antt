@@ -1,4 +1,4 @@
--- Document 01's worked cases e to i, rows of one table, about sets that list their members.
+-- Document 01's worked cases e to i, rows of one plainTable, about sets that list their members.
 use mathlib.Core.Path.{_≡_}
 use mathlib.Core.Bool.{Bool, true, false, _||_}
 use mathlib.Core.List.{List, [], _∷_}
@@ -14,19 +14,19 @@ setOf [] n = false
 setOf (x ∷ xs) n = eqb n x || setOf xs n
 
 -- a row: the members, what is asked, the answer
-pub data Case : Type 0 where
+pub data PlainCase : Type 0 where
   -- the rank of an id
-  rankOf : List ℕ → ℤ → ℕ → Case
+  rankOf : List ℕ → ℤ → ℕ → PlainCase
   -- what `rank_if_set` answers
-  rankIfOf : List ℕ → ℤ → RankIf → Case
+  rankIfOf : List ℕ → ℤ → RankIf → PlainCase
   -- how many parts for S
-  partsOf : List ℕ → ℕ → ℕ → Case
+  partsOf : List ℕ → ℕ → ℕ → PlainCase
   -- the boundaries for S
-  boundariesOf : List ℕ → ℕ → List ℕ → Case
+  boundariesOf : List ℕ → ℕ → List ℕ → PlainCase
   -- part k for S: low end, high end, first rank, count
-  partOf : List ℕ → ℕ → ℕ → ℤ → End → ℕ → ℕ → Case
+  partOf : List ℕ → ℕ → ℕ → ℤ → End → ℕ → ℕ → PlainCase
   -- whether a member lies in a range
-  rangeOf : List ℕ → ℤ → ℤ → Bool → Case
+  rangeOf : List ℕ → ℤ → ℤ → Bool → PlainCase
 
 -- part k is there, has these ends, and its members are n from rank r on
 pub record PartIs (P : Ids) (S k : ℕ) (low : ℤ) (high : End) (r n : ℕ) : Type 0 where
@@ -35,13 +35,13 @@ pub record PartIs (P : Ids) (S k : ℕ) (low : ℤ) (high : End) (r n : ℕ) : T
   pub first : rank P low ≡ r
   pub counts : held P (part P S k) ≡ n
 
-abbrev pub Says : Case → Type 0
-Says (rankOf xs x r) = rank (setOf xs) x ≡ r
-Says (rankIfOf xs x a) = rankIf (setOf xs) x ≡ a
-Says (partsOf xs S n) = parts (total (setOf xs)) S ≡ n
-Says (boundariesOf xs S bs) = boundaries (setOf xs) S ≡ bs
-Says (partOf xs S k low high r n) = PartIs (setOf xs) S k low high r n
-Says (rangeOf xs lo hi b) = anyInRange (setOf xs) lo hi ≡ b
+abbrev pub PlainSays : PlainCase → Type 0
+PlainSays (rankOf xs x r) = rank (setOf xs) x ≡ r
+PlainSays (rankIfOf xs x a) = rankIf (setOf xs) x ≡ a
+PlainSays (partsOf xs S n) = parts (total (setOf xs)) S ≡ n
+PlainSays (boundariesOf xs S bs) = boundaries (setOf xs) S ≡ bs
+PlainSays (partOf xs S k low high r n) = PartIs (setOf xs) S k low high r n
+PlainSays (rangeOf xs lo hi b) = anyInRange (setOf xs) lo hi ≡ b
 
 abbrev largest : ℕ
 largest = 2 ^ 63 - 1
@@ -58,8 +58,8 @@ ends = 0 ∷ largest ∷ []
 abbrev zeroAlone : List ℕ
 zeroAlone = 0 ∷ []
 
-abbrev pub table : List Case
-table =
+abbrev pub plainTable : List PlainCase
+plainTable =
     -- e
     rankOf four smallest 0
     ∷ rankOf four (negsuc 2) 0

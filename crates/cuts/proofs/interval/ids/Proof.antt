@@ -2,8 +2,8 @@
 use mathlib.Core.Path.{_∙_, sym, ap, ap₂}
 use Rattle.cuts.proofs.Signs.{read}
 use borrow.Author.Tests.{not-true, not-false}
-use Rattle.cuts.specs.declared.plan.Spanned.the-variants as spanned
-use Rattle.cuts.specs.declared.plan.Span.the-variants.{Between, From}
+use Rattle.document.specs.declared.plan.Spanned.the-variants as spanned
+use Rattle.document.specs.declared.plan.Span.the-variants.{Between, From}
 use Rattle.cuts.proofs.Intervals.{ids-bad, ids-none, ids-there, span-between, span-from}
 use borrow.Author.Needs.{needs}
 use Rattle.cuts.proofs.interval.ids.Statement.{statement}

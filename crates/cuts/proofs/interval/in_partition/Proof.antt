@@ -2,8 +2,8 @@
 use mathlib.Core.Bool.{_&&_, and-true}
 use mathlib.Core.Path.{_∙_, sym, ap, ap₂}
 use Rattle.sums.specs.Cuts.{inside}
-use Rattle.cuts.specs.Spans.{intervalOf}
-use Rattle.cuts.specs.declared.plan.Span.{Span}
+use Rattle.document.specs.Spans.{intervalOf}
+use Rattle.document.specs.declared.plan.Span.{Span}
 use Rattle.cuts.proofs.Signs.{le-read, lt-read}
 use borrow.Author.Needs.{needs}
 use Rattle.cuts.proofs.interval.in_partition.Statement.{statement}

@@ -3,7 +3,7 @@ use mathlib.Core.Path.{_∙_, sym, ap}
 use Prim.Native.Nat.{_*_}
 use native.Mathlib.Omega.{arith}
 use borrow.Author.Tests.{not-true, not-false}
-use Rattle.cuts.specs.declared.plan.Ranks.the-variants as ranks
+use Rattle.document.specs.declared.plan.Ranks.the-variants as ranks
 use Rattle.cuts.proofs.Rounded.{first-within}
 use Rattle.cuts.proofs.Intervals.{ranks-bad, ranks-none, ranks-there}
 use borrow.Author.Needs.{needs}

@@ -1,7 +1,7 @@
 -- The id is passed on as an i64; a refusal is read as 0. Assumes nothing.
 use Rattle.numbers.proofs.Signs.{signed-hop}
 use Rattle.layout.specs.Mem.{memOf}
-use Rattle.layout.specs.declared.answer.Amount.the-variants as amount
+use Rattle.document.specs.declared.answer.Amount.the-variants as amount
 use Rattle.cuts.proofs.Boundaries.{rank-told}
 use borrow.Author.Needs.{needs}
 use Rattle.cuts.proofs.search.rank_of.Statement.{statement}

@@ -3,8 +3,8 @@ use mathlib.Core.Path.{_∙_, ap₂}
 use lib.IntN.{ℤ}
 use mir.Facts.{toZ-ofZ}
 use Rattle.sums.specs.Cuts.{inside}
-use Rattle.cuts.specs.Spans.{intervalOf}
-use Rattle.cuts.specs.declared.plan.Span.{Span}
+use Rattle.document.specs.Spans.{intervalOf}
+use Rattle.document.specs.declared.plan.Span.{Span}
 use Rattle.exports.proofs.Codes.{span-read}
 use borrow.Author.Needs.{needs}
 use Rattle.exports.proofs.partition.bp_in_partition.Statement.{statement}

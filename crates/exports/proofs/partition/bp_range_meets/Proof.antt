@@ -1,7 +1,7 @@
 -- The wrapped answer on the interval made. Assumes nothing.
 use mathlib.Core.Path.{_∙_, ap, ap₂}
 use mir.Facts.{toZ-ofZ}
-use Rattle.cuts.specs.Spans.{meets}
+use Rattle.document.specs.Spans.{rangeMeets}
 use Rattle.exports.proofs.Codes.{span-read}
 use borrow.Author.Needs.{needs}
 use Rattle.exports.proofs.partition.bp_range_meets.Statement.{statement}
@@ -14,7 +14,7 @@ range-meets-requires : tie.Need-range-meets-requires
 range-meets-requires c κs = search needs
 
 returns : tie.Need-returns
-returns c = let a = c .before .before in c .range-meets .ensures ∙ ap₂ (λ f i. f i) (ap₂ meets (toZ-ofZ (a .fits .min)) (toZ-ofZ (a .fits .max))) (span-read (a .args .has-high) _ _ (a .fits .low) (a .fits .high) _ (c .before .span-of .ensures))
+returns c = let a = c .before .before in c .range-meets .ensures ∙ ap₂ (λ f i. f i) (ap₂ rangeMeets (toZ-ofZ (a .fits .min)) (toZ-ofZ (a .fits .max))) (span-read (a .args .has-high) _ _ (a .fits .low) (a .fits .high) _ (c .before .span-of .ensures))
 
 pub bp-range-meets-spec : {M : Type 1} → statement M
 bp-range-meets-spec = tie.close (tie.spec span-of-requires range-meets-requires returns)

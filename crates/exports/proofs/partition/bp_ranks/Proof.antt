@@ -1,7 +1,7 @@
 -- The code of the wrapped answer on the plan made. Assumes nothing.
 use mathlib.Core.Path.{_∙_, ap}
-use Rattle.cuts.specs.Spans.{ranksBy}
-use Rattle.cuts.specs.declared.plan.Plan.{Plan}
+use Rattle.document.specs.Spans.{ranksAnswer}
+use Rattle.document.specs.declared.plan.Plan.{Plan}
 use Rattle.exports.specs.Codes.{ranksCode}
 use borrow.Author.Needs.{needs}
 use Rattle.exports.proofs.partition.bp_ranks.Statement.{statement}
@@ -17,7 +17,7 @@ of-ranks-requires : tie.Need-of-ranks-requires
 of-ranks-requires c κs = search needs
 
 returns : tie.Need-returns
-returns c = let a = c .before .before .before .args in c .of-ranks .ensures ∙ ap ranksCode (c .before .ranks .ensures ∙ ap (λ (p : Plan). ranksBy p (a .k)) (c .before .before .plan-of .ensures))
+returns c = let a = c .before .before .before .args in c .of-ranks .ensures ∙ ap ranksCode (c .before .ranks .ensures ∙ ap (λ (p : Plan). ranksAnswer p (a .k)) (c .before .before .plan-of .ensures))
 
 pub bp-ranks-spec : {M : Type 1} → statement M
 bp-ranks-spec = tie.close (tie.spec plan-of-requires ranks-requires of-ranks-requires returns)

@@ -1,7 +1,7 @@
 -- By the owner.
 use native.Mathlib.Omega.{arith}
 use mathlib.Core.Path.{_∙_, ap₂}
-use Rattle.fullcheck.specs.Check.{zeros, freePage}
+use Rattle.fullcheck.specs.Check.{zeros, freePageIs}
 use Rattle.fullcheck.proofs.Ways.{part-inside, free-some, free-none}
 use Rattle.fullcheck.proofs.pages.free_page.Statement.{statement}
 use Rattle.fullcheck.proofs.pages.free_page.Tie as tie
@@ -10,7 +10,7 @@ page-owner-requires : tie.Need-page-owner-requires
 page-owner-requires c κs = (c .before .before .pre .0, omega arith)
 
 returns : tie.Need-returns
-unfolding freePage
+unfolding freePageIs
 returns c = free-some _ _ _ (c .before .page-owner .ensures) (c .if1 .taken)
 
 page-at-requires : tie.Need-page-at-requires
@@ -26,7 +26,7 @@ zeros64-requires : tie.Need-zeros64-requires
 zeros64-requires c κs = omega (arith, c .before .before .page-at .ensures, c .pow2 .ensures, part-inside _ _ _ _ (c .before .before .before .before .before .before .before .pre .1) (c .before .before .before .before .before .before .before .pre .2))
 
 returns-2 : tie.Need-returns-2
-unfolding freePage
+unfolding freePageIs
 returns-2 c = c .zeros64 .ensures ∙ (ap₂ (zeros _) (c .before .before .before .page-at .ensures) (c .before .pow2 .ensures) ∙ free-none _ _ _ (c .before .before .before .before .before .page-owner .ensures) (c .before .before .before .before .if1 .left))
 
 pub free-page-spec : {M : Type 1} → statement M

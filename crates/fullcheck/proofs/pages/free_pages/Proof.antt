@@ -4,12 +4,12 @@ use native.Mathlib.Omega.{arith}
 use mathlib.Core.Path.{_≡_}
 use Rattle.sums.specs.Rules.{allTo}
 use Rattle.sums.proofs.Rules.{all-none, all-more, all-end}
-use Rattle.fullcheck.specs.Check.{freePage}
+use Rattle.fullcheck.specs.Check.{freePageIs}
 use Rattle.fullcheck.proofs.pages.free_pages.Statement.{statement}
 use Rattle.fullcheck.proofs.pages.free_pages.Tie as tie
 
 abbrev Inv-loop : tie.InvT-loop
-Inv-loop pages table h n ok₀ p₀ ok p = (p ≤ n) × (ok ≡ allTo (freePage h pages table) p)
+Inv-loop pages table h n ok₀ p₀ ok p = (p ≤ n) × (ok ≡ allTo (freePageIs h pages table) p)
 
 abbrev μ-loop : tie.MeasureT-loop
 μ-loop pages table h n ok₀ p₀ ok p = n - p

@@ -7,13 +7,13 @@ use lib.Dec.{eqb}
 use Rattle.sums.specs.Rules.{allTo}
 use Rattle.sums.specs.Sums.{sumTo}
 use Rattle.sums.proofs.Rules.{all-none, all-more}
-use Rattle.fullcheck.specs.Check.{sizeAt, keptIf, prefixIs}
+use Rattle.fullcheck.specs.Check.{sizeOfEntry, keptIf, prefixIs}
 use Rattle.fullcheck.proofs.Running.{size-le, size-more, prefix-passes, ranks-pass, size-none}
 use Rattle.fullcheck.proofs.ranks.ranks_are.Statement.{statement}
 use Rattle.fullcheck.proofs.ranks.ranks_are.Tie as tie
 
 abbrev Inv-loop : tie.InvT-loop
-Inv-loop pages table h ranked n ok₀ sum₀ e₀ ok sum e = (e ≤ n) × (sum ≤ 33554432 * e) × (sum ≡ keptIf ranked (sumTo (sizeAt h pages table) e)) × (ok ≡ allTo (prefixIs h pages table) e)
+Inv-loop pages table h ranked n ok₀ sum₀ e₀ ok sum e = (e ≤ n) × (sum ≤ 33554432 * e) × (sum ≡ keptIf ranked (sumTo (sizeOfEntry h pages table) e)) × (ok ≡ allTo (prefixIs h pages table) e)
 
 abbrev μ-loop : tie.MeasureT-loop
 μ-loop pages table h ranked n ok₀ sum₀ e₀ ok sum e = n - e

@@ -4,12 +4,12 @@ use native.Mathlib.Omega.{arith}
 use mathlib.Core.Path.{_≡_}
 use Rattle.sums.specs.Rules.{allTo}
 use Rattle.sums.proofs.Rules.{all-none, all-more, all-end}
-use Rattle.fullcheck.specs.Check.{freeRow}
+use Rattle.fullcheck.specs.Check.{freeRowIs}
 use Rattle.fullcheck.proofs.rows.free_rows.Statement.{statement}
 use Rattle.fullcheck.proofs.rows.free_rows.Tie as tie
 
 abbrev Inv-loop : tie.InvT-loop
-Inv-loop rows table h n ok₀ r₀ ok r = (r ≤ n) × (ok ≡ allTo (freeRow h rows table) r)
+Inv-loop rows table h n ok₀ r₀ ok r = (r ≤ n) × (ok ≡ allTo (freeRowIs h rows table) r)
 
 abbrev μ-loop : tie.MeasureT-loop
 μ-loop rows table h n ok₀ r₀ ok r = n - r

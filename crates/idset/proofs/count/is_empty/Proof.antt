@@ -10,13 +10,13 @@ use Prim.Native.Nat.{ℕ}
 use lib.Dec.{eqb}
 use Rattle.sums.specs.Rules.{allTo}
 use Rattle.sums.proofs.Rules.{all-none, all-more}
-use Rattle.calls.specs.Counts.{goodAt, sizeAt}
+use Rattle.calls.specs.Counts.{goodAt, sizeBy}
 use Rattle.idset.proofs.Totals.{no-empty, empty-bad, empty-is}
 use Rattle.idset.proofs.count.is_empty.Statement.{statement}
 use Rattle.idset.proofs.count.is_empty.Tie as tie
 
 abbrev Inv-loop : tie.InvT-loop
-Inv-loop pages rows blocks table n good₀ none₀ e₀ good none e = (e ≤ n) × (good ≡ allTo (goodAt (mem pages rows blocks table)) e) × (none ≡ allTo (λ (i : ℕ). eqb (sizeAt (mem pages rows blocks table) i) 0) e)
+Inv-loop pages rows blocks table n good₀ none₀ e₀ good none e = (e ≤ n) × (good ≡ allTo (goodAt (mem pages rows blocks table)) e) × (none ≡ allTo (λ (i : ℕ). eqb (sizeBy (mem pages rows blocks table) i) 0) e)
 
 abbrev μ-loop : tie.MeasureT-loop
 μ-loop pages rows blocks table n good₀ none₀ e₀ good none e = n - e

@@ -12,14 +12,14 @@ use Rattle.sums.specs.Sums.{sumTo}
 use Rattle.sums.specs.Rules.{allTo}
 use Rattle.sums.proofs.Sums.{sum-zero}
 use Rattle.sums.proofs.Rules.{all-none, all-more}
-use Rattle.calls.specs.Counts.{goodAt, sizeAt}
+use Rattle.calls.specs.Counts.{goodAt, sizeBy}
 use Rattle.idset.proofs.Runs.{run}
 use Rattle.idset.proofs.Totals.{no-len, len-more, len-fits, len-bad, len-is}
 use Rattle.idset.proofs.count.len.Statement.{statement}
 use Rattle.idset.proofs.count.len.Tie as tie
 
 abbrev Inv-loop : tie.InvT-loop
-Inv-loop pages rows blocks table n good₀ sum₀ e₀ good sum e = (e ≤ n) × (good ≡ allTo (goodAt (mem pages rows blocks table)) e) × (sum ≡ sumTo (sizeAt (mem pages rows blocks table)) e)
+Inv-loop pages rows blocks table n good₀ sum₀ e₀ good sum e = (e ≤ n) × (good ≡ allTo (goodAt (mem pages rows blocks table)) e) × (sum ≡ sumTo (sizeBy (mem pages rows blocks table)) e)
 
 abbrev μ-loop : tie.MeasureT-loop
 μ-loop pages rows blocks table n good₀ sum₀ e₀ good sum e = n - e

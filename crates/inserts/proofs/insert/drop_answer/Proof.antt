@@ -1,6 +1,6 @@
 -- Whether it was done is all that is kept. Assumes nothing.
 use mathlib.Core.Path.{sym, ap}
-use Rattle.calls.specs.Promise.{done}
+use Rattle.document.specs.Insert.{done}
 use borrow.Author.Needs.{needs}
 use Rattle.inserts.proofs.insert.drop_answer.Statement.{statement}
 use Rattle.inserts.proofs.insert.drop_answer.Tie as tie

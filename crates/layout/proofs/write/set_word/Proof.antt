@@ -1,6 +1,6 @@
 -- A direct entry is one write; past them the overflow table is searched. Assumes nothing.
 use mathlib.Core.Path.{_∙_, ap}
-use Rattle.layout.specs.declared.head.Header.{Header}
+use Rattle.document.specs.declared.sizes.Sizes.{Sizes}
 use Rattle.layout.specs.Writes.{putWord}
 use Rattle.layout.proofs.Gaps.{direct-put, over-head}
 use borrow.Author.Needs.{needs}
@@ -35,7 +35,7 @@ same-length-2 : tie.Need-same-length-2
 same-length-2 c = search needs
 
 returns-2 : tie.Need-returns-2
-returns-2 c = let a = c .before .before .before .before .before .before .before .before .before .before .args in c .before .before .put-word .ensures ∙ ap (λ (k : Header). putWord k (a .table .now) (a .c) (a .w)) (c .before .before .before .before .read .ensures)
+returns-2 c = let a = c .before .before .before .before .before .before .before .before .before .before .args in c .before .before .put-word .ensures ∙ ap (λ (k : Sizes). putWord k (a .table .now) (a .c) (a .w)) (c .before .before .before .before .read .ensures)
 
 pub set-word-spec : {M : Type 1} → statement M
 set-word-spec =

@@ -4,7 +4,7 @@ use Prim.Native.Nat.{_+_, _^_, _≤_}
 use native.Mathlib.Omega.{arith}
 use lib.ListN.{length}
 use Rattle.dense.specs.Bits.{bitsTo}
-use Rattle.layout.specs.Sizes.{top}
+use Rattle.document.specs.Sizes.{top}
 use Rattle.layout.specs.Places.{pagePart}
 use Rattle.ranked.proofs.Counting.{shifts, page-fits, page-wide, page-long, page-total, total-small}
 use borrow.Author.Needs.{needs}

@@ -1,7 +1,7 @@
 -- The form, then the header word. Assumes nothing.
 use mathlib.Core.Path.{refl, sym, ap, _∙_}
 use Rattle.layout.specs.Mem.{Mem, memOf}
-use Rattle.layout.specs.declared.answer.Amount.the-variants.{Of}
+use Rattle.document.specs.declared.answer.Amount.the-variants.{Of}
 use Rattle.ranked.proofs.Answers.{total-of}
 use borrow.Author.Needs.{needs}
 use Rattle.ranked.proofs.rank.total_count.Statement.{statement}

@@ -1,0 +1,1 @@
+// What the contract of every call on a set says. No code.

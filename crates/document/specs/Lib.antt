@@ -1,0 +1,10 @@
+pub mod Sizes
+pub mod State
+pub mod Refusals
+pub mod Room
+pub mod Insert
+pub mod Prepare
+pub mod Calls
+pub mod Answers
+pub mod Plan
+pub mod Spans
