@@ -14,6 +14,8 @@ use Rattle.document.specs.declared.answer.Amount.{Amount}
 use Rattle.document.specs.declared.answer.Amount.the-variants as amount
 use Rattle.ranks.specs.Rank.{rankBy}
 use Rattle.document.specs.Answers.{rankAnswer}
+use Rattle.document.specs.Calls.{rank-of, many}
+use Rattle.contracts.specs.Does.{Answers}
 use Rattle.ranks.proofs.Ranks.{rank-is}
 use Rattle.cuts.specs.Plan.{narrowed, amountOf, rankOf, boundaryBy}
 use Rattle.cuts.proofs.Narrowing.{First, narrowed-between, narrowed-first}
@@ -22,10 +24,13 @@ pub boundary-below : (x : Mem) (m : ℕ) → boundaryBy x m < 2 ^ 63
 unfolding boundaryBy
 boundary-below x m = let l = narrowed-between (rankOf x) m 0 (2 ^ 63 - 1) (omega arith) in omega arith
 
+same-amount : (a b : Amount) → many a ≡ many b → a ≡ b
+same-amount a b e = cc
+
 -- the rank that the code asked for, by its answer
-pub rank-told : (x : Mem) (n : ℕ) (z : ℤ) (a b : Amount) → z ≡ pos n → a ≡ rankBy x z → a ≡ b → amountOf b ≡ rankOf x n
+pub rank-told : (x : Mem) (n : ℕ) (z : ℤ) (a b : Amount) → z ≡ pos n → Answers x (rank-of z) (many a) → a ≡ b → amountOf b ≡ rankOf x n
 unfolding rankOf
-rank-told x n z a b q e d = ap amountOf (sym d ∙ e ∙ ap (rankBy x) q)
+rank-told x n z a b q h d = ap amountOf (sym d ∙ same-amount a (rankBy x z) (h .by) ∙ ap (rankBy x) q)
 
 -- what the whole search answers
 pub boundary-is : (x : Mem) (m r : ℕ) → r ≡ narrowed (rankOf x) m 0 (2 ^ 63 - 1) → r ≡ boundaryBy x m

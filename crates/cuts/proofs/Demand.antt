@@ -7,10 +7,8 @@ use Rattle.sums.specs.Ids.{Ids, total}
 use Rattle.sums.specs.Cuts.{size, parts, Interval, inside, part, held, Cutting}
 use Rattle.sums.specs.Planned.{Planned}
 use Rattle.sums.proofs.Theorems.{planned}
-use Rattle.layout.specs.Mem.{Mem}
-use Rattle.layout.specs.Meaning.{holds, stateOf}
-use Rattle.document.specs.Plan.{planOf}
-use Rattle.document.specs.Plan.{PlansFor}
+use Rattle.document.specs.State.{State}
+use Rattle.document.specs.Plan.{planOf, PlansFor}
 use Rattle.document.specs.Spans.{intervalOf, spanAt}
 use Rattle.document.specs.declared.plan.Planning.the-variants.{Made}
 use Rattle.cuts.proofs.Intervals.{span-part, plans-bounded}
@@ -36,7 +34,9 @@ module _ (P : Ids) (S n : ℕ) (cut other : ℕ → Interval) (same : (k : ℕ) 
   }
 
 -- whatever boundaries a planning left
-pub spans-planned : {x : Mem} {S : ℕ} {bs cs : List ℤ} → PlansFor (stateOf x) S bs (Made (planOf (total (holds x)) S)) cs
-    → Planned (holds x) S (parts (total (holds x)) S) (λ (k : ℕ). intervalOf (spanAt (planOf (total (holds x)) S) cs k))
-spans-planned {x} {S} {bs} {cs} p =
-    planned-same (holds x) S (parts (total (holds x)) S) (λ (k : ℕ). intervalOf (spanAt (planOf (total (holds x)) S) cs k)) (part (holds x) S) (span-part (holds x) S cs (plans-bounded p)) (planned (holds x) S)
+pub spans-planned : {q : State} {S : ℕ} {bs cs : List ℤ} → PlansFor q S bs (Made (planOf (total (q .members)) S)) cs
+    → Planned (q .members) S (parts (total (q .members)) S) (λ (k : ℕ). intervalOf (spanAt (planOf (total (q .members)) S) cs k))
+spans-planned {q} {S} {bs} {cs} p =
+    let P = q .members in
+    let n = parts (total P) S in
+    planned-same P S n (λ (k : ℕ). intervalOf (spanAt (planOf (total P) S) cs k)) (part P S) (span-part P S cs (plans-bounded p)) (planned P S)

@@ -13,10 +13,8 @@ use Rattle.sums.specs.Cuts.{size, parts, Least, Interval, End, before, boundary
 use Rattle.sums.proofs.Least.{least-one}
 use Rattle.sums.proofs.Parts.{boundary-is, high-last, high-next}
 use Rattle.sums.proofs.Held.{part-held}
-use Rattle.layout.specs.Mem.{Mem}
-use Rattle.layout.specs.Meaning.{holds, ranked, stateOf}
-use Rattle.document.specs.Plan.{planOf}
-use Rattle.document.specs.Plan.{planAnswer, PlansFor}
+use Rattle.document.specs.State.{State}
+use Rattle.document.specs.Plan.{planOf, planAnswer, PlansFor}
 use Rattle.document.specs.Spans.{intervalOf, recordOk, planOk, lowAt, spanAt, idsAnswer, ranksAnswer}
 use Rattle.document.specs.declared.plan.Plan.{Plan}
 use Rattle.document.specs.declared.plan.Planning.the-variants.{Made, Refused}
@@ -136,6 +134,8 @@ room-of P S room true e = go (ltb room (parts (total P) S - 1)) refl e
     go false t q = ltb-false room (parts (total P) S - 1) t
 
 -- boundaries as a planning leaves them
-pub plans-bounded : {x : Mem} {S : ℕ} {bs cs : List ℤ} → PlansFor (stateOf x) S bs (Made (planOf (total (holds x)) S)) cs → Bounded (holds x) S cs
+pub plans-bounded : {q : State} {S : ℕ} {bs cs : List ℤ} → PlansFor q S bs (Made (planOf (total (q .members)) S)) cs → Bounded (q .members) S cs
 unfolding planAnswer
-plans-bounded {x} {S} {bs} {cs} p = record { enough = (let l = room-of (holds x) S (length bs) (ranked x) (p .answer) in let e = p .same-length in omega arith); least = p .boundaries refl }
+plans-bounded {q} {S} {bs} {cs} p =
+    let l = room-of (q .members) S (length bs) (q .mode) (p .answer) in
+    record { enough = (let e = p .same-length in omega arith); least = p .boundaries refl }

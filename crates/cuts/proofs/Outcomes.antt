@@ -11,11 +11,10 @@ use Rattle.sums.specs.Cuts.{size, parts}
 use Rattle.sums.proofs.Rounding.{parts-tight}
 use Rattle.layout.specs.Mem.{Mem}
 use Rattle.layout.specs.Sizes.{modeAt, totalAt}
-use Rattle.layout.specs.Meaning.{ranked, stateOf}
-use Rattle.layout.specs.Follows.{Follows}
+use Rattle.layout.specs.Meaning.{ranked}
 use Rattle.layout.specs.Tests.{walked}
 use Rattle.cuts.specs.Plan.{boundsTo, cut, planBy}
-use Rattle.document.specs.Plan.{PlansFor}
+use Rattle.cuts.specs.Promise.{Plans}
 use Rattle.document.specs.declared.plan.Planning.{Planning}
 use Rattle.document.specs.declared.plan.Planning.the-variants.{Made, Refused}
 use Rattle.cuts.proofs.Plans.{plan-bad, plan-open, plan-short, plan-made, plans-by}
@@ -29,18 +28,14 @@ last-fits t S n e l = go (n - 1) refl
     go (suc k) q = let h = parts-tight t S (suc k) (omega arith) (omega arith) in omega arith
 
 module _ (x : Mem) (S : ℕ) (bs : List ℤ) where
-  -- the two clauses of the contract
-  abbrev pub Leaves : Planning → List ℤ → Type 0
-  Leaves a cs = (cut a cs ≡ planBy x S bs) × (Follows x → PlansFor (stateOf x) S bs a cs)
+  leaves : (a : Planning) (cs : List ℤ) → planBy x S bs ≡ cut a cs → Plans x S bs a cs
+  leaves a cs e = record { by = sym e; says = plans-by S bs a cs (sym e) }
 
-  leaves : (a : Planning) (cs : List ℤ) → planBy x S bs ≡ cut a cs → Leaves a cs
-  leaves a cs e = (sym e, plans-by S bs a cs (sym e))
-
-  pub leaves-bad : (ok : Bool) → ok ≡ walked x → ok ≡ false → Leaves (Refused 3) bs
+  pub leaves-bad : (ok : Bool) → ok ≡ walked x → ok ≡ false → Plans x S bs (Refused 3) bs
   leaves-bad ok e n = leaves (Refused 3) bs (plan-bad x S bs (sym e ∙ n))
 
   module _ (ok : Bool) (e : ok ≡ walked x) (y : ok ≡ true) (m : ℕ) (em : m ≡ modeAt (x .table)) where
-    pub leaves-open : (m ≡ 1 → ⊥) → Leaves (Refused 5) bs
+    pub leaves-open : (m ≡ 1 → ⊥) → Plans x S bs (Refused 5) bs
     leaves-open n = leaves (Refused 5) bs (plan-open x S bs (sym e ∙ y) (ne-eqb (modeAt (x .table)) 1 (λ (q : modeAt (x .table) ≡ 1). n (em ∙ q))))
 
     module _ (one : m ≡ 1) (t n : ℕ) (et : t ≡ totalAt (x .table)) (en : n ≡ parts t S) where
@@ -50,10 +45,10 @@ module _ (x : Mem) (S : ℕ) (bs : List ℤ) where
       in-all : n ≡ parts (totalAt (x .table)) S
       in-all = en ∙ ap (λ (k : ℕ). parts k S) et
 
-      pub leaves-short : length bs < n - 1 → Leaves (Refused 11) bs
+      pub leaves-short : length bs < n - 1 → Plans x S bs (Refused 11) bs
       leaves-short l = leaves (Refused 11) bs (plan-short x S bs (sym e ∙ y) is-ranked (subst (λ (k : ℕ). length bs < k - 1) in-all l))
 
-      pub leaves-made : (g : ℕ) (cs : List ℤ) → n - 1 ≤ length bs → g ≡ size S → cs ≡ boundsTo x S bs (n - 1) → Leaves (Made (record { total = t; slots = g; partitions = n })) cs
+      pub leaves-made : (g : ℕ) (cs : List ℤ) → n - 1 ≤ length bs → g ≡ size S → cs ≡ boundsTo x S bs (n - 1) → Plans x S bs (Made (record { total = t; slots = g; partitions = n })) cs
       leaves-made g cs l eg ec =
           leaves (Made (record { total = t; slots = g; partitions = n })) cs
           (plan-made x S bs (sym e ∙ y) is-ranked (subst (λ (k : ℕ). k - 1 ≤ length bs) in-all l) ∙ (let h = in-all in cc))

@@ -6,6 +6,7 @@ use lib.IntN.{ℤ, pos}
 use lib.ListN.{length, set}
 use lib.Dec.{leb, ltb, eqb}
 use Rattle.sums.specs.Cuts.{size, parts}
+use Rattle.document.specs.Plan.{planOf}
 use Rattle.layout.specs.Mem.{Mem}
 use Rattle.layout.specs.Sizes.{modeAt, totalAt}
 use Rattle.layout.specs.Tests.{walked}

@@ -1,7 +1,6 @@
 // The intervals of a plan and its boundaries, and what lies in them. Both come from the caller: they are tested before they are used.
 ghost use mathlib.Core.Path.{_≡_};
-ghost use Rattle.sums.specs.Cuts.{inside};
-ghost use Rattle.document.specs.Spans.{intervalOf, recordOk, planOk, lowAt, idsAnswer, ranksAnswer, rangeMeets};
+ghost use Rattle.document.specs.Spans.{inPartition, recordOk, planOk, lowAt, idsAnswer, ranksAnswer, rangeMeets};
 use crate::bound;
 use crate::round;
 use document::plan::Plan;
@@ -78,7 +77,7 @@ pub fn ranks(p: Plan, k: u64) -> Ranks
 
 // Whether an id lies in an interval.
 pub fn in_partition(id: i64, i: Span) -> bool
-    ensures { λ b. ⌜ b ≡ inside id (intervalOf i) ⌝ }
+    ensures { λ b. ⌜ b ≡ inPartition id i ⌝ }
 {
     match i {
         Span::Between(lo, hi) => (lo <= id) & (id < hi),

@@ -3,8 +3,7 @@ ghost use mathlib.Core.Path.{_≡_};
 ghost use Prim.Native.Nat.{_*_, _^_, _<_};
 ghost use Rattle.sums.specs.Cuts.{size};
 ghost use Rattle.layout.specs.Mem.{memOf};
-ghost use Rattle.layout.specs.Follows.{Follows};
-ghost use Rattle.cuts.specs.Plan.{boundsTo, cut, planBy};
+ghost use Rattle.cuts.specs.Plan.{boundsTo};
 ghost use Rattle.cuts.specs.Promise.{Plans};
 use crate::bound;
 use crate::round;
@@ -26,7 +25,8 @@ fn fill(
     bounds: &mut [i64],
 )
     requires { ⌜ n * size s < 2 ^ 64 ⌝ }
-    ensures { λ _. ⌜ now (bounds .exit) ≡ boundsTo (memOf (pages .entry) (rows .entry) (blocks .entry) (table .entry)) s (now (bounds .entry)) n ⌝ }
+    ensures { λ _. ⌜ (let x = memOf (pages .entry) (rows .entry) (blocks .entry) (table .entry) in
+        now (bounds .exit) ≡ boundsTo x s (now (bounds .entry)) n) ⌝ }
 {
     let slots = order::greatest_of(1, s);
     let mut k: u64 = 0;
@@ -46,8 +46,8 @@ pub fn plan(
     s: u64,
     bounds: &mut [i64],
 ) -> Planning
-    ensures by { λ a. ⌜ cut a (now (bounds .exit)) ≡ planBy (memOf (pages .entry) (rows .entry) (blocks .entry) (table .entry)) s (now (bounds .entry)) ⌝ }
-    ensures says { λ a. ⌜ (Follows (memOf (pages .entry) (rows .entry) (blocks .entry) (table .entry)) → Plans (memOf (pages .entry) (rows .entry) (blocks .entry) (table .entry)) s (now (bounds .entry)) a (now (bounds .exit))) ⌝ }
+    ensures { λ a. ⌜ (let x = memOf (pages .entry) (rows .entry) (blocks .entry) (table .entry) in
+        Plans x s (now (bounds .entry)) a (now (bounds .exit))) ⌝ }
 {
     if !walk::walk(pages, rows, blocks, table) {
         return Planning::Refused(3);

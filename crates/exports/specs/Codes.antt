@@ -2,11 +2,7 @@
 use Prim.Native.Nat.{ℕ}
 use mathlib.Core.Path.{_≡_}
 use mathlib.Core.Bool.{Bool, true, false, cond}
-use mathlib.Core.List.{List}
 use lib.IntN.{ℤ, pos}
-use Rattle.layout.specs.Mem.{Mem}
-use Rattle.layout.specs.SetUp.{did}
-use Rattle.layout.specs.Follows.{Follows}
 use Rattle.document.specs.declared.answer.Outcome.{Outcome}
 use Rattle.document.specs.declared.answer.Outcome.the-variants as outcome
 use Rattle.document.specs.declared.answer.Truth.{Truth}
@@ -15,10 +11,6 @@ use Rattle.document.specs.declared.answer.Amount.{Amount}
 use Rattle.document.specs.declared.answer.Amount.the-variants as amount
 use Rattle.document.specs.declared.answer.Perhaps.{Perhaps}
 use Rattle.document.specs.declared.answer.Perhaps.the-variants as perhaps
-use Rattle.calls.specs.Prepare.{prepareBy}
-use Rattle.calls.proofs.Outcomes.{Prepares}
-use Rattle.cuts.specs.Plan.{cut, planBy}
-use Rattle.cuts.specs.Promise.{Plans}
 use Rattle.document.specs.declared.plan.Plan.{Plan}
 use Rattle.document.specs.declared.plan.Planning.{Planning}
 use Rattle.document.specs.declared.plan.Planning.the-variants as planning
@@ -100,11 +92,3 @@ pub record Coded {A R : Type 0} (code : A → R) (says : A → Type 0) (r : R) :
   pub answer : A
   pub coded : r ≡ code answer
   pub said : says answer
-
--- `pre_allocate`, from memory x to memory y
-abbrev pub PreAllocates : Mem → ℤ → Outcome → Mem → Type 0
-PreAllocates x z a y = (did a y ≡ prepareBy x z) × (Follows x → Prepares x z a y)
-
--- `plan` for S, from boundaries bs to boundaries cs
-abbrev pub PlansBy : Mem → ℕ → List ℤ → Planning → List ℤ → Type 0
-PlansBy x S bs a cs = (cut a cs ≡ planBy x S bs) × (Follows x → Plans x S bs a cs)

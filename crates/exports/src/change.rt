@@ -1,12 +1,11 @@
 // The calls that change a set: answer and memory after are those of the call that each wraps.
-ghost use mathlib.Core.Path.{_≡_};
 ghost use Rattle.layout.specs.Mem.{memOf};
-ghost use Rattle.layout.specs.SetUp.{did, sizesOf, setUpBy};
+ghost use Rattle.layout.specs.SetUp.{sizesOf};
 ghost use Rattle.document.specs.declared.answer.Outcome.{Outcome};
 ghost use Rattle.document.specs.declared.answer.Truth.{Truth};
-ghost use Rattle.inserts.specs.Calls.{Sets, SetsIfNew, SetsPrepared};
-ghost use Rattle.ranked.specs.Answers.{RankedUp, Opened};
-ghost use Rattle.exports.specs.Codes.{Coded, outcomeCode, truthCode, PreAllocates};
+ghost use Rattle.document.specs.Calls.{insert, put, prepared, prepare, rank-up, leave, whether, that};
+ghost use Rattle.contracts.specs.Does.{Does, SetsUp};
+ghost use Rattle.exports.specs.Codes.{Coded, outcomeCode, truthCode};
 use crate::answer;
 use crate::answer::Answer;
 use idset::setup;
@@ -27,7 +26,9 @@ pub extern "C" fn bp_set_up(
     blocks: &mut [u32],
     table: &mut [u64],
 ) -> Answer
-    ensures { λ a. ⌜ Coded outcomeCode (λ (o : Outcome). did o (memOf (pages .exit) (rows .exit) (blocks .exit) (table .exit)) ≡ setUpBy (sizesOf s m d v r p) (memOf (pages .entry) (rows .entry) (blocks .entry) (table .entry))) a ⌝ }
+    ensures { λ a. ⌜ (let x = memOf (pages .entry) (rows .entry) (blocks .entry) (table .entry) in
+        let y = memOf (pages .exit) (rows .exit) (blocks .exit) (table .exit) in
+        Coded outcomeCode (λ (o : Outcome). SetsUp (sizesOf s m d v r p) x o y) a) ⌝ }
 {
     answer::of_outcome(setup::set_up(s, m, d, v, r, p, pages, rows, blocks, table))
 }
@@ -41,7 +42,9 @@ pub extern "C" fn bp_set(
     table: &mut [u64],
     id: i64,
 ) -> Answer
-    ensures { λ r. ⌜ Coded outcomeCode (λ (a : Outcome). Sets (memOf (pages .entry) (rows .entry) (blocks .entry) (table .entry)) id a (memOf (pages .exit) (rows .exit) (blocks .exit) (table .exit))) r ⌝ }
+    ensures { λ r. ⌜ (let x = memOf (pages .entry) (rows .entry) (blocks .entry) (table .entry) in
+        let y = memOf (pages .exit) (rows .exit) (blocks .exit) (table .exit) in
+        Coded outcomeCode (λ (a : Outcome). Does x (put id) (that a) y) r) ⌝ }
 {
     answer::of_outcome(insert::set(pages, rows, blocks, table, id))
 }
@@ -55,7 +58,9 @@ pub extern "C" fn bp_set_if_new(
     table: &mut [u64],
     id: i64,
 ) -> Answer
-    ensures { λ r. ⌜ Coded truthCode (λ (a : Truth). SetsIfNew (memOf (pages .entry) (rows .entry) (blocks .entry) (table .entry)) id a (memOf (pages .exit) (rows .exit) (blocks .exit) (table .exit))) r ⌝ }
+    ensures { λ r. ⌜ (let x = memOf (pages .entry) (rows .entry) (blocks .entry) (table .entry) in
+        let y = memOf (pages .exit) (rows .exit) (blocks .exit) (table .exit) in
+        Coded truthCode (λ (a : Truth). Does x (insert id) (whether a) y) r) ⌝ }
 {
     answer::of_truth(insert::set_if_new(pages, rows, blocks, table, id))
 }
@@ -69,7 +74,9 @@ pub extern "C" fn bp_set_prepared(
     table: &mut [u64],
     id: i64,
 ) -> Answer
-    ensures { λ r. ⌜ Coded truthCode (λ (a : Truth). SetsPrepared (memOf (pages .entry) (rows .entry) (blocks .entry) (table .entry)) id a (memOf (pages .exit) (rows .exit) (blocks .exit) (table .exit))) r ⌝ }
+    ensures { λ r. ⌜ (let x = memOf (pages .entry) (rows .entry) (blocks .entry) (table .entry) in
+        let y = memOf (pages .exit) (rows .exit) (blocks .exit) (table .exit) in
+        Coded truthCode (λ (a : Truth). Does x (prepared id) (whether a) y) r) ⌝ }
 {
     answer::of_truth(insert::set_prepared(pages, rows, blocks, table, id))
 }
@@ -83,7 +90,9 @@ pub extern "C" fn bp_pre_allocate(
     table: &mut [u64],
     max: i64,
 ) -> Answer
-    ensures { λ r. ⌜ Coded outcomeCode (λ (a : Outcome). PreAllocates (memOf (pages .entry) (rows .entry) (blocks .entry) (table .entry)) max a (memOf (pages .exit) (rows .exit) (blocks .exit) (table .exit))) r ⌝ }
+    ensures { λ r. ⌜ (let x = memOf (pages .entry) (rows .entry) (blocks .entry) (table .entry) in
+        let y = memOf (pages .exit) (rows .exit) (blocks .exit) (table .exit) in
+        Coded outcomeCode (λ (a : Outcome). Does x (prepare max) (that a) y) r) ⌝ }
 {
     answer::of_outcome(prepare::pre_allocate(pages, rows, blocks, table, max))
 }
@@ -96,7 +105,9 @@ pub extern "C" fn bp_into_ranked(
     blocks: &mut [u32],
     table: &mut [u64],
 ) -> Answer
-    ensures { λ r. ⌜ Coded outcomeCode (λ (a : Outcome). RankedUp (memOf (pages .entry) (rows .entry) (blocks .entry) (table .entry)) a (memOf (pages .entry) (rows .entry) (blocks .exit) (table .exit))) r ⌝ }
+    ensures { λ r. ⌜ (let x = memOf (pages .entry) (rows .entry) (blocks .entry) (table .entry) in
+        let y = memOf (pages .entry) (rows .entry) (blocks .exit) (table .exit) in
+        Coded outcomeCode (λ (a : Outcome). Does x rank-up (that a) y) r) ⌝ }
 {
     answer::of_outcome(form::into_ranked(pages, rows, blocks, table))
 }
@@ -109,7 +120,9 @@ pub extern "C" fn bp_into_open(
     blocks: &mut [u32],
     table: &mut [u64],
 ) -> Answer
-    ensures { λ r. ⌜ Coded outcomeCode (λ (a : Outcome). Opened (memOf (pages .entry) (rows .entry) (blocks .entry) (table .entry)) a (memOf (pages .entry) (rows .entry) (blocks .exit) (table .exit))) r ⌝ }
+    ensures { λ r. ⌜ (let x = memOf (pages .entry) (rows .entry) (blocks .entry) (table .entry) in
+        let y = memOf (pages .entry) (rows .entry) (blocks .exit) (table .exit) in
+        Coded outcomeCode (λ (a : Outcome). Does x leave (that a) y) r) ⌝ }
 {
     answer::of_outcome(form::into_open(pages, rows, blocks, table))
 }

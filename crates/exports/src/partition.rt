@@ -1,10 +1,10 @@
 // The plan: boundaries of a ranked set, its partitions, and what lies in them. A plan and an interval come as their numbers.
 ghost use mathlib.Core.Path.{_≡_};
-ghost use Rattle.sums.specs.Cuts.{inside};
 ghost use Rattle.layout.specs.Mem.{memOf};
-ghost use Rattle.document.specs.Spans.{intervalOf, idsAnswer, ranksAnswer, rangeMeets};
+ghost use Rattle.document.specs.Spans.{inPartition, idsAnswer, ranksAnswer, rangeMeets};
 ghost use Rattle.document.specs.declared.plan.Planning.{Planning};
-ghost use Rattle.exports.specs.Codes.{Coded, PlansBy, planningCode, spannedCode, ranksCode, planIn, spanIn};
+ghost use Rattle.cuts.specs.Promise.{Plans};
+ghost use Rattle.exports.specs.Codes.{Coded, planningCode, spannedCode, ranksCode, planIn, spanIn};
 use crate::cut;
 use crate::cut::IdsAnswer;
 use crate::cut::PlanAnswer;
@@ -24,7 +24,8 @@ pub extern "C" fn bp_plan(
     s: u64,
     bounds: &mut [i64],
 ) -> PlanAnswer
-    ensures { λ r. ⌜ Coded planningCode (λ (a : Planning). PlansBy (memOf (pages .entry) (rows .entry) (blocks .entry) (table .entry)) s (now (bounds .entry)) a (now (bounds .exit))) r ⌝ }
+    ensures { λ r. ⌜ (let x = memOf (pages .entry) (rows .entry) (blocks .entry) (table .entry) in
+        Coded planningCode (λ (a : Planning). Plans x s (now (bounds .entry)) a (now (bounds .exit))) r) ⌝ }
 {
     cut::of_planning(planning::plan(pages, rows, blocks, table, s, bounds))
 }
@@ -75,7 +76,7 @@ fn span_of(has_high: bool, low: i64, high: i64) -> Span
 // Whether an id lies in an interval.
 #[no_mangle]
 pub extern "C" fn bp_in_partition(id: i64, has_high: bool, low: i64, high: i64) -> bool
-    ensures { λ b. ⌜ b ≡ inside id (intervalOf (spanIn «has_high» low high)) ⌝ }
+    ensures { λ b. ⌜ b ≡ inPartition id (spanIn «has_high» low high) ⌝ }
 {
     interval::in_partition(id, span_of(has_high, low, high))
 }

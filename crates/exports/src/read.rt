@@ -1,9 +1,12 @@
 // The calls that only read: each answers the code of what the call that it wraps answers.
-ghost use Rattle.sums.specs.Rules.{Decides};
 ghost use Rattle.layout.specs.Mem.{memOf};
-ghost use Rattle.layout.specs.Follows.{Follows};
-ghost use Rattle.idset.specs.Answers.{Gets, ChunkOf, Len, IsEmpty, HasAny, ChunkCount};
-ghost use Rattle.ranked.specs.Answers.{RankOf, RankIfOf, TotalOf};
+ghost use Rattle.document.specs.declared.answer.Truth.{Truth};
+ghost use Rattle.document.specs.declared.answer.Truth.the-variants.{Is};
+ghost use Rattle.document.specs.declared.answer.Amount.{Amount};
+ghost use Rattle.document.specs.declared.answer.Perhaps.{Perhaps};
+ghost use Rattle.document.specs.Calls.{get, chunk-of, len, is-empty, has-any, chunk-count, rank-of, rank-if, total-count, check};
+ghost use Rattle.document.specs.Calls.{whether, many, maybe};
+ghost use Rattle.contracts.specs.Does.{Answers};
 ghost use Rattle.exports.specs.Codes.{Coded, truthCode, amountCode, perhapsCode};
 use crate::answer;
 use crate::answer::Answer;
@@ -14,7 +17,7 @@ use ranked::rank;
 // The full check: whether memory follows the layout.
 #[no_mangle]
 pub extern "C" fn bp_check(pages: &[u64], rows: &[u32], blocks: &[u32], table: &[u64]) -> bool
-    ensures { λ b. ⌜ Decides b (Follows (memOf (pages .entry) (rows .entry) (blocks .entry) (table .entry))) ⌝ }
+    ensures { λ b. ⌜ (let x = memOf (pages .entry) (rows .entry) (blocks .entry) (table .entry) in Answers x check (whether (Is b))) ⌝ }
 {
     fullcheck::check(pages, rows, blocks, table)
 }
@@ -28,7 +31,8 @@ pub extern "C" fn bp_get(
     table: &[u64],
     id: i64,
 ) -> Answer
-    ensures { λ r. ⌜ Coded truthCode (Gets (memOf (pages .entry) (rows .entry) (blocks .entry) (table .entry)) id) r ⌝ }
+    ensures { λ r. ⌜ (let x = memOf (pages .entry) (rows .entry) (blocks .entry) (table .entry) in
+        Coded truthCode (λ (a : Truth). Answers x (get id) (whether a)) r) ⌝ }
 {
     answer::of_truth(read::get(pages, rows, blocks, table, id))
 }
@@ -42,7 +46,8 @@ pub extern "C" fn bp_chunk_of(
     table: &[u64],
     id: i64,
 ) -> Answer
-    ensures { λ r. ⌜ Coded perhapsCode (ChunkOf (memOf (pages .entry) (rows .entry) (blocks .entry) (table .entry)) id) r ⌝ }
+    ensures { λ r. ⌜ (let x = memOf (pages .entry) (rows .entry) (blocks .entry) (table .entry) in
+        Coded perhapsCode (λ (a : Perhaps). Answers x (chunk-of id) (maybe a)) r) ⌝ }
 {
     answer::of_perhaps(read::chunk_of(pages, rows, blocks, table, id))
 }
@@ -50,7 +55,8 @@ pub extern "C" fn bp_chunk_of(
 // The members.
 #[no_mangle]
 pub extern "C" fn bp_len(pages: &[u64], rows: &[u32], blocks: &[u32], table: &[u64]) -> Answer
-    ensures { λ r. ⌜ Coded amountCode (Len (memOf (pages .entry) (rows .entry) (blocks .entry) (table .entry))) r ⌝ }
+    ensures { λ r. ⌜ (let x = memOf (pages .entry) (rows .entry) (blocks .entry) (table .entry) in
+        Coded amountCode (λ (a : Amount). Answers x len (many a)) r) ⌝ }
 {
     answer::of_amount(count::len(pages, rows, blocks, table))
 }
@@ -58,7 +64,8 @@ pub extern "C" fn bp_len(pages: &[u64], rows: &[u32], blocks: &[u32], table: &[u
 // Whether there is no member.
 #[no_mangle]
 pub extern "C" fn bp_is_empty(pages: &[u64], rows: &[u32], blocks: &[u32], table: &[u64]) -> Answer
-    ensures { λ r. ⌜ Coded truthCode (IsEmpty (memOf (pages .entry) (rows .entry) (blocks .entry) (table .entry))) r ⌝ }
+    ensures { λ r. ⌜ (let x = memOf (pages .entry) (rows .entry) (blocks .entry) (table .entry) in
+        Coded truthCode (λ (a : Truth). Answers x is-empty (whether a)) r) ⌝ }
 {
     answer::of_truth(count::is_empty(pages, rows, blocks, table))
 }
@@ -66,7 +73,8 @@ pub extern "C" fn bp_is_empty(pages: &[u64], rows: &[u32], blocks: &[u32], table
 // Whether there is a chunk, be it empty.
 #[no_mangle]
 pub extern "C" fn bp_has_any(pages: &[u64], rows: &[u32], blocks: &[u32], table: &[u64]) -> Answer
-    ensures { λ r. ⌜ Coded truthCode (HasAny (memOf (pages .entry) (rows .entry) (blocks .entry) (table .entry))) r ⌝ }
+    ensures { λ r. ⌜ (let x = memOf (pages .entry) (rows .entry) (blocks .entry) (table .entry) in
+        Coded truthCode (λ (a : Truth). Answers x has-any (whether a)) r) ⌝ }
 {
     answer::of_truth(count::has_any(pages, rows, blocks, table))
 }
@@ -79,7 +87,8 @@ pub extern "C" fn bp_allocated_chunk_count(
     blocks: &[u32],
     table: &[u64],
 ) -> Answer
-    ensures { λ r. ⌜ Coded amountCode (ChunkCount (memOf (pages .entry) (rows .entry) (blocks .entry) (table .entry))) r ⌝ }
+    ensures { λ r. ⌜ (let x = memOf (pages .entry) (rows .entry) (blocks .entry) (table .entry) in
+        Coded amountCode (λ (a : Amount). Answers x chunk-count (many a)) r) ⌝ }
 {
     answer::of_amount(count::allocated_chunk_count(pages, rows, blocks, table))
 }
@@ -93,7 +102,8 @@ pub extern "C" fn bp_rank(
     table: &[u64],
     id: i64,
 ) -> Answer
-    ensures { λ r. ⌜ Coded amountCode (RankOf (memOf (pages .entry) (rows .entry) (blocks .entry) (table .entry)) id) r ⌝ }
+    ensures { λ r. ⌜ (let x = memOf (pages .entry) (rows .entry) (blocks .entry) (table .entry) in
+        Coded amountCode (λ (a : Amount). Answers x (rank-of id) (many a)) r) ⌝ }
 {
     answer::of_amount(rank::rank(pages, rows, blocks, table, id))
 }
@@ -107,7 +117,8 @@ pub extern "C" fn bp_rank_if_set(
     table: &[u64],
     id: i64,
 ) -> Answer
-    ensures { λ r. ⌜ Coded perhapsCode (RankIfOf (memOf (pages .entry) (rows .entry) (blocks .entry) (table .entry)) id) r ⌝ }
+    ensures { λ r. ⌜ (let x = memOf (pages .entry) (rows .entry) (blocks .entry) (table .entry) in
+        Coded perhapsCode (λ (a : Perhaps). Answers x (rank-if id) (maybe a)) r) ⌝ }
 {
     answer::of_perhaps(rank::rank_if_set(pages, rows, blocks, table, id))
 }
@@ -120,7 +131,8 @@ pub extern "C" fn bp_total_count(
     blocks: &[u32],
     table: &[u64],
 ) -> Answer
-    ensures { λ r. ⌜ Coded amountCode (TotalOf (memOf (pages .entry) (rows .entry) (blocks .entry) (table .entry))) r ⌝ }
+    ensures { λ r. ⌜ (let x = memOf (pages .entry) (rows .entry) (blocks .entry) (table .entry) in
+        Coded amountCode (λ (a : Amount). Answers x total-count (many a)) r) ⌝ }
 {
     answer::of_amount(rank::total_count(pages, rows, blocks, table))
 }

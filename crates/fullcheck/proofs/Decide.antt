@@ -12,6 +12,10 @@ use Rattle.sums.specs.Ids.{count}
 use Rattle.sums.specs.Rules.{allTo, Decides}
 use Rattle.sums.proofs.Rules.{all-of, and-of, unless-of, if-of, same-of, leb-of, ltb-of, eqb-of}
 use Rattle.dense.specs.Bits.{bitsTo}
+use Rattle.document.specs.Calls.{check, whether}
+use Rattle.document.specs.declared.answer.Truth.the-variants.{Is}
+use Rattle.contracts.specs.Does.{Answers}
+use Rattle.contracts.proofs.Readings.{answers}
 use Rattle.layout.specs.Mem.{Mem}
 use Rattle.document.specs.Sizes.{top}
 use Rattle.layout.specs.Sizes.{wide, blocksOf, overAt, head, overCount, totalAt}
@@ -168,8 +172,11 @@ pub follows-of : (x : Mem) → Decides (checked x) (Follows x)
 unfolding checked
 follows-of x = then-of (walked-of x) (laid-of (head x) x) (walk-of (head x) x)
 
-pub answered : (x : Mem) (b : Bool) → b ≡ checked x → Decides b (Follows x)
-answered x b e = record { sound = λ h. follows-of x .sound (sym e ∙ h); whole = λ f. e ∙ follows-of x .whole f }
+decided : (x : Mem) (b : Bool) → b ≡ checked x → Decides b (Follows x)
+decided x b e = record { sound = λ h. follows-of x .sound (sym e ∙ h); whole = λ f. e ∙ follows-of x .whole f }
+
+pub answered : (x : Mem) (b : Bool) → b ≡ checked x → Answers x check (whether (Is b))
+answered x b e = answers x check (record { yes = b; said = refl; decides = decided x b e })
 
 -- what the walk answered, and the sizes read as h
 module _ (x : Mem) (a : Bool) (p : a ≡ walked x) where

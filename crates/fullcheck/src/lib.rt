@@ -1,16 +1,17 @@
 // The full check: whether memory follows the layout.
-pub mod blocks;
-pub mod pages;
-pub mod ranks;
-pub mod rows;
-pub mod table;
-pub mod zeros;
+mod blocks;
+mod counts;
+mod pages;
+mod rows;
+mod table;
+mod zeros;
 
 ghost use mathlib.Core.Path.{_≡_};
-ghost use Rattle.sums.specs.Rules.{Decides};
 ghost use Rattle.layout.specs.Mem.{memOf};
 ghost use Rattle.layout.specs.Tests.{Walked};
-ghost use Rattle.layout.specs.Follows.{Follows};
+ghost use Rattle.document.specs.Calls.{check, whether};
+ghost use Rattle.document.specs.declared.answer.Truth.the-variants.{Is};
+ghost use Rattle.contracts.specs.Does.{Answers};
 ghost use Rattle.fullcheck.specs.Check.{restIs};
 use document::sizes::Sizes;
 use layout::head;
@@ -24,13 +25,13 @@ fn rest_is(pages: &[u64], rows: &[u32], blocks: &[u32], table: &[u64], h: Sizes)
     table::table_rest(table, h)
         & rows::rows_are(rows, table, h)
         & pages::free_pages(pages, table, h)
-        & ranks::ranks_are(pages, table, h)
+        & counts::ranks_are(pages, table, h)
         & blocks::blocks_are(pages, blocks, table, h)
 }
 
 // Yes exactly when memory follows the layout.
 pub fn check(pages: &[u64], rows: &[u32], blocks: &[u32], table: &[u64]) -> bool
-    ensures { λ b. ⌜ Decides b (Follows (memOf (pages .entry) (rows .entry) (blocks .entry) (table .entry))) ⌝ }
+    ensures { λ b. ⌜ (let x = memOf (pages .entry) (rows .entry) (blocks .entry) (table .entry) in Answers x check (whether (Is b))) ⌝ }
 {
     if !walk::walk(pages, rows, blocks, table) {
         return false;

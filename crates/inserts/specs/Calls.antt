@@ -21,27 +21,6 @@ use Rattle.calls.proofs.Outcomes.{Inserts}
 unfoldable pub refusalOf : List ℕ → ℕ
 refusalOf t = cond (shiftOk t && leb (modeAt t) 1) (cond (eqb (modeAt t) 1) 4 0) 3
 
--- a call that inserts z, answers r and leaves memory y: as defined, and as document 01 wants it
-pub record Does (x : Mem) (z : ℤ) (r : Truth) (y : Mem) (defined : Told) (wanted : Truth) : Type 0 where
-  pub by : told r y ≡ defined
-  pub says : Follows x → Inserts x z wanted r y
-
--- `set_if_new`
-abbrev pub SetsIfNew : Mem → ℤ → Truth → Mem → Type 0
-SetsIfNew x z r y = Does x z r y (insertBy x z) (newAnswer (stateOf x) z)
-
--- the prepared insert
-abbrev pub SetsPrepared : Mem → ℤ → Truth → Mem → Type 0
-SetsPrepared x z r y = Does x z r y (preparedBy x z) (preparedAnswer (stateOf x) z)
-
 -- `set` drops the answer: whether the id was new is not said
 abbrev pub dropped : Told → Did
 dropped t = did (done (t .answer)) (t .after)
-
-pub record Dropped (x : Mem) (z : ℤ) (r : Outcome) (y : Mem) (wanted : Truth) : Type 0 where
-  pub answer : r ≡ done wanted
-  pub inserts : Inserts x z wanted wanted y
-
-pub record Sets (x : Mem) (z : ℤ) (r : Outcome) (y : Mem) : Type 0 where
-  pub by : did r y ≡ dropped (insertBy x z)
-  pub says : Follows x → Dropped x z r y (newAnswer (stateOf x) z)

@@ -32,8 +32,10 @@ use Rattle.document.specs.declared.answer.Outcome.{Outcome}
 use Rattle.document.specs.declared.answer.Outcome.the-variants.{Done, Refused}
 use Rattle.layout.proofs.Tests.{walked-of}
 use Rattle.calls.specs.Prepare.{work, densedTo, overNeeded, pagesNeeded, prepareId, prepareBy}
-use Rattle.calls.proofs.Outcomes.{Prepares}
-use Rattle.calls.proofs.Preparing.{prepare-says}
+use Rattle.document.specs.Calls.{prepare, that}
+use Rattle.contracts.specs.Runs.{byOutcome}
+use Rattle.contracts.specs.Does.{Does}
+use Rattle.contracts.proofs.Steps.{does}
 use Rattle.prepare.specs.Plans.{planTo, planId, planPrepare}
 use Rattle.prepare.specs.Ready.{Sound}
 use Rattle.prepare.specs.declared.plan.Plan.{Plan}
@@ -165,8 +167,8 @@ pub plan-acted : (x : Mem) (z : ℤ) (q r : Plan) → q ≡ planPrepare x z → 
 plan-acted x z q r e f = ap (acted x) (sym f ∙ e) ∙ acted-by x z
 
 -- the same with what a customer reads
-pub says : (x : Mem) (z : ℤ) → SFits w64 z → (r : Outcome) (y : Mem) → did r y ≡ prepareBy x z → (did r y ≡ prepareBy x z) × (Follows x → Prepares x z r y)
-says x z f r y e = (e, λ w. subst (λ (d : Did). Prepares x z (d .answer) (d .after)) (sym e) (prepare-says w z f))
+pub says : (x : Mem) (z : ℤ) → SFits w64 z → (r : Outcome) (y : Mem) → did r y ≡ prepareBy x z → Does x (prepare z) (that r) y
+says x z f r y e = does x (prepare z) f (ap byOutcome e)
 
 -- ---- a plan to make chunks dense stands on the walk and on room in the overflow table
 

@@ -2,12 +2,9 @@
 pub mod plan;
 pub mod write;
 
-ghost use mathlib.Core.Path.{_≡_};
 ghost use Rattle.layout.specs.Mem.{memOf};
-ghost use Rattle.layout.specs.SetUp.{did};
-ghost use Rattle.layout.specs.Follows.{Follows};
-ghost use Rattle.calls.specs.Prepare.{prepareBy};
-ghost use Rattle.calls.proofs.Outcomes.{Prepares};
+ghost use Rattle.document.specs.Calls.{prepare, that};
+ghost use Rattle.contracts.specs.Does.{Does};
 use crate::plan::Plan;
 use document::answer::Outcome;
 
@@ -19,7 +16,9 @@ pub fn pre_allocate(
     table: &mut [u64],
     max_id: i64,
 ) -> Outcome
-    ensures { λ r. ⌜ (did r (memOf (pages .exit) (rows .exit) (blocks .exit) (table .exit)) ≡ prepareBy (memOf (pages .entry) (rows .entry) (blocks .entry) (table .entry)) «max_id») × (Follows (memOf (pages .entry) (rows .entry) (blocks .entry) (table .entry)) → Prepares (memOf (pages .entry) (rows .entry) (blocks .entry) (table .entry)) «max_id» r (memOf (pages .exit) (rows .exit) (blocks .exit) (table .exit))) ⌝ }
+    ensures { λ r. ⌜ (let x = memOf (pages .entry) (rows .entry) (blocks .entry) (table .entry) in
+        let y = memOf (pages .exit) (rows .exit) (blocks .exit) (table .exit) in
+        Does x (prepare «max_id») (that r) y) ⌝ }
 {
     match plan::plan_for(pages, rows, blocks, table, max_id) {
         Plan::Refuse(n) => Outcome::Refused(n),

@@ -25,9 +25,11 @@ use Rattle.calls.specs.Reading.{spotBy}
 use Rattle.ranks.specs.Rank.{belowAt, plus, rankSeat, rankSplit, ifRanked, rankBy, hasSpot, perhapsOf, rankIfSeat, rankIfSplit, rankIfBy, totalBy}
 use Rattle.layout.specs.declared.seat.Seat.{Seat}
 use Rattle.layout.specs.declared.seat.Seat.the-variants as seat
-use Rattle.ranks.proofs.Ranks.{rank-is, rank-if-is, total-is}
 use Rattle.ranked.specs.Modes.{formIn}
-use Rattle.ranked.specs.Answers.{RankOf, RankIfOf, TotalOf}
+use Rattle.document.specs.Calls as calls
+use Rattle.document.specs.Calls.{total-count, many, maybe}
+use Rattle.contracts.specs.Does.{Answers}
+use Rattle.contracts.proofs.Readings.{answers}
 use Rattle.ranked.specs.declared.mode.Form.{Form}
 use Rattle.ranked.specs.declared.mode.Form.the-variants.{Ranked}
 use Rattle.ranked.proofs.Modes.{byForm, form-way}
@@ -69,8 +71,8 @@ split-way : {A : Type 0} (refuse : ℕ → A) (g : Split → A) (x : Mem) (z : �
 split-way refuse g x z f s e q h = ap g (h ∙ ap (λ (k : ℕ). splitOf k z) e) ∙ form-way (x .table) refuse (g (splitOf (getD (x .table) 0 0) z)) Ranked f
 
 module _ (x : Mem) (z : ℤ) where
-  pub rank-of : (a : Amount) → a ≡ rankBy x z → RankOf x z a
-  rank-of a e = record { by = e; says = λ w. e ∙ rank-is w z }
+  pub rank-of : (a : Amount) → a ≡ rankBy x z → Answers x (calls.rank-of z) (many a)
+  rank-of a e = answers x (calls.rank-of z) (ap many e)
 
   pub rank-form : (k : Form) → formIn (x .table) ≡ k → byForm amount.Refused (rankSplit x (splitOf (getD (x .table) 0 0) z)) k ≡ rankBy x z
   unfolding rankBy
@@ -80,8 +82,8 @@ module _ (x : Mem) (z : ℤ) where
   unfolding rankBy
   rank-split = split-way amount.Refused (rankSplit x) x z
 
-  pub rank-if-of : (a : Perhaps) → a ≡ rankIfBy x z → RankIfOf x z a
-  rank-if-of a e = record { by = e; says = λ w. e ∙ rank-if-is w z }
+  pub rank-if-of : (a : Perhaps) → a ≡ rankIfBy x z → Answers x (calls.rank-if z) (maybe a)
+  rank-if-of a e = answers x (calls.rank-if z) (ap maybe e)
 
   pub rank-if-form : (k : Form) → formIn (x .table) ≡ k → byForm perhaps.Refused (rankIfSplit x (splitOf (getD (x .table) 0 0) z)) k ≡ rankIfBy x z
   unfolding rankIfBy
@@ -96,5 +98,5 @@ module _ (x : Mem) where
   unfolding totalBy
   total-form = form-way (x .table) amount.Refused (amount.Of (totalAt (x .table)))
 
-  pub total-of : (k : Form) (a : Amount) → formIn (x .table) ≡ k → a ≡ byForm amount.Refused (amount.Of (totalAt (x .table))) k → TotalOf x a
-  total-of k a e f = let g = f ∙ total-form k e in record { by = g; says = λ w. g ∙ total-is w }
+  pub total-of : (k : Form) (a : Amount) → formIn (x .table) ≡ k → a ≡ byForm amount.Refused (amount.Of (totalAt (x .table))) k → Answers x total-count (many a)
+  total-of k a e f = answers x total-count (ap many (f ∙ total-form k e))

@@ -19,12 +19,12 @@ use Rattle.layout.specs.declared.place.Place.the-variants.{Absent, Sparse, Dens
 use Rattle.document.specs.declared.answer.Outcome.{Outcome}
 use Rattle.document.specs.declared.answer.Outcome.the-variants.{Done, Refused}
 use Rattle.ranks.specs.Form.{prefixed, marked, blockedTo, toRanked, toOpen, rankUpBy, openBy}
-use Rattle.document.specs.Answers.{rankUpAnswer, leaveAnswer}
-use Rattle.ranks.proofs.Turns.{Turns}
-use Rattle.ranks.proofs.Forms.{rank-up-says, open-says}
 use Rattle.ranked.specs.Modes.{formOf}
 use Rattle.ranked.specs.Counts.{entrySize, Inside, Places}
-use Rattle.ranked.specs.Answers.{RankedUp, Opened}
+use Rattle.document.specs.Calls.{rank-up, leave, that}
+use Rattle.contracts.specs.Runs.{byOutcome}
+use Rattle.contracts.specs.Does.{Does}
+use Rattle.contracts.proofs.Steps.{does}
 use Rattle.ranked.specs.declared.mode.Form.{Form}
 use Rattle.ranked.specs.declared.mode.Form.the-variants.{Open, Ranked, Bad}
 use Rattle.ranked.proofs.Modes.{form-walked}
@@ -61,6 +61,12 @@ module _ (x : Mem) where
   upBy Ranked = did (Refused 4) x
   upBy Open = did Done (toRanked (head x) x)
 
+  abbrev RankedUp : Outcome → Mem → Type 0
+  RankedUp a y = Does x rank-up (that a) y
+
+  abbrev Opened : Outcome → Mem → Type 0
+  Opened a y = Does x leave (that a) y
+
   abbrev downBy : Form → Did
   downBy Bad = did (Refused 3) x
   downBy Ranked = did Done (toOpen (head x) x)
@@ -84,28 +90,28 @@ module _ (x : Mem) where
       go true false = refl
       go false d = refl
 
-  ranked-up : (a : Outcome) (y : Mem) → did a y ≡ rankUpBy x → RankedUp x a y
-  ranked-up a y e = record { by = e; says = λ w. subst (λ (d : Did). Turns x (rankUpAnswer (stateOf x)) true (d .answer) (d .after)) (sym e) (rank-up-says w) }
+  ranked-up : (a : Outcome) (y : Mem) → did a y ≡ rankUpBy x → RankedUp a y
+  ranked-up a y e = does x rank-up tt (ap byOutcome e)
 
-  opened : (a : Outcome) (y : Mem) → did a y ≡ openBy x → Opened x a y
-  opened a y e = record { by = e; says = λ w. subst (λ (d : Did). Turns x (leaveAnswer (stateOf x)) false (d .answer) (d .after)) (sym e) (open-says w) }
+  opened : (a : Outcome) (y : Mem) → did a y ≡ openBy x → Opened a y
+  opened a y e = does x leave tt (ap byOutcome e)
 
-  pub up-bad : formOf x ≡ Bad → RankedUp x (Refused 3) x
+  pub up-bad : formOf x ≡ Bad → RankedUp (Refused 3) x
   up-bad e = ranked-up (Refused 3) x (up-form Bad e)
 
-  pub up-ranked : formOf x ≡ Ranked → RankedUp x (Refused 4) x
+  pub up-ranked : formOf x ≡ Ranked → RankedUp (Refused 4) x
   up-ranked e = ranked-up (Refused 4) x (up-form Ranked e)
 
-  pub up-open : formOf x ≡ Open → (h : Sizes) (y : Mem) → h ≡ head x → y ≡ toRanked h x → RankedUp x Done y
+  pub up-open : formOf x ≡ Open → (h : Sizes) (y : Mem) → h ≡ head x → y ≡ toRanked h x → RankedUp Done y
   up-open e h y f g = ranked-up Done y (ap (did Done) (g ∙ ap (λ (k : Sizes). toRanked k x) f) ∙ up-form Open e)
 
-  pub down-bad : formOf x ≡ Bad → Opened x (Refused 3) x
+  pub down-bad : formOf x ≡ Bad → Opened (Refused 3) x
   down-bad e = opened (Refused 3) x (down-form Bad e)
 
-  pub down-open : formOf x ≡ Open → Opened x (Refused 5) x
+  pub down-open : formOf x ≡ Open → Opened (Refused 5) x
   down-open e = opened (Refused 5) x (down-form Open e)
 
-  pub down-ranked : formOf x ≡ Ranked → (h : Sizes) (y : Mem) → h ≡ head x → y ≡ toOpen h x → Opened x Done y
+  pub down-ranked : formOf x ≡ Ranked → (h : Sizes) (y : Mem) → h ≡ head x → y ≡ toOpen h x → Opened Done y
   down-ranked e h y f g = opened Done y (ap (did Done) (g ∙ ap (λ (k : Sizes). toOpen k x) f) ∙ down-form Ranked e)
 
   -- the walk found nothing wrong

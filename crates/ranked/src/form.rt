@@ -3,7 +3,8 @@ ghost use mathlib.Core.Path.{_≡_};
 ghost use Rattle.layout.specs.Mem.{memOf};
 ghost use Rattle.layout.specs.Tests.{Walked};
 ghost use Rattle.ranks.specs.Form.{toRanked, toOpen};
-ghost use Rattle.ranked.specs.Answers.{RankedUp, Opened};
+ghost use Rattle.document.specs.Calls.{rank-up, leave, that};
+ghost use Rattle.contracts.specs.Does.{Does};
 use crate::blocks;
 use crate::mode;
 use crate::mode::Form;
@@ -35,7 +36,9 @@ fn clear_all(h: Sizes, pages: &[u64], rows: &[u32], blocks: &mut [u32], table: &
 
 // An open set becomes a ranked one.
 pub fn into_ranked(pages: &[u64], rows: &[u32], blocks: &mut [u32], table: &mut [u64]) -> Outcome
-    ensures { λ r. ⌜ RankedUp (memOf (pages .entry) (rows .entry) (blocks .entry) (table .entry)) r (memOf (pages .entry) (rows .entry) (blocks .exit) (table .exit)) ⌝ }
+    ensures { λ r. ⌜ (let x = memOf (pages .entry) (rows .entry) (blocks .entry) (table .entry) in
+        let y = memOf (pages .entry) (rows .entry) (blocks .exit) (table .exit) in
+        Does x rank-up (that r) y) ⌝ }
 {
     match mode::form_of(pages, rows, blocks, table) {
         Form::Bad => Outcome::Refused(3),
@@ -49,7 +52,9 @@ pub fn into_ranked(pages: &[u64], rows: &[u32], blocks: &mut [u32], table: &mut 
 
 // A ranked set becomes an open one.
 pub fn into_open(pages: &[u64], rows: &[u32], blocks: &mut [u32], table: &mut [u64]) -> Outcome
-    ensures { λ r. ⌜ Opened (memOf (pages .entry) (rows .entry) (blocks .entry) (table .entry)) r (memOf (pages .entry) (rows .entry) (blocks .exit) (table .exit)) ⌝ }
+    ensures { λ r. ⌜ (let x = memOf (pages .entry) (rows .entry) (blocks .entry) (table .entry) in
+        let y = memOf (pages .entry) (rows .entry) (blocks .exit) (table .exit) in
+        Does x leave (that r) y) ⌝ }
 {
     match mode::form_of(pages, rows, blocks, table) {
         Form::Bad => Outcome::Refused(3),

@@ -5,7 +5,8 @@ ghost use lib.ListN.{getD};
 ghost use Rattle.layout.specs.Mem.{memOf};
 ghost use Rattle.layout.specs.Seat.{seatIn};
 ghost use Rattle.ranks.specs.Rank.{rankSeat, rankIfSeat, perhapsOf};
-ghost use Rattle.ranked.specs.Answers.{RankOf, RankIfOf, TotalOf};
+ghost use Rattle.document.specs.Calls.{rank-of, rank-if, total-count, many, maybe};
+ghost use Rattle.contracts.specs.Does.{Answers};
 use crate::chunk;
 use crate::mode;
 use crate::mode::Form;
@@ -74,7 +75,7 @@ fn rank_if_at(
 
 // The members strictly below an id, 0 for an id of 0 or less.
 pub fn rank(pages: &[u64], rows: &[u32], blocks: &[u32], table: &[u64], id: i64) -> Amount
-    ensures { λ r. ⌜ RankOf (memOf (pages .entry) (rows .entry) (blocks .entry) (table .entry)) id r ⌝ }
+    ensures { λ r. ⌜ (let x = memOf (pages .entry) (rows .entry) (blocks .entry) (table .entry) in Answers x (rank-of id) (many r)) ⌝ }
 {
     match mode::form_in(table) {
         Form::Bad => Amount::Refused(3),
@@ -91,7 +92,7 @@ pub fn rank(pages: &[u64], rows: &[u32], blocks: &[u32], table: &[u64], id: i64)
 
 // A member's rank, none for another id.
 pub fn rank_if_set(pages: &[u64], rows: &[u32], blocks: &[u32], table: &[u64], id: i64) -> Perhaps
-    ensures { λ r. ⌜ RankIfOf (memOf (pages .entry) (rows .entry) (blocks .entry) (table .entry)) id r ⌝ }
+    ensures { λ r. ⌜ (let x = memOf (pages .entry) (rows .entry) (blocks .entry) (table .entry) in Answers x (rank-if id) (maybe r)) ⌝ }
 {
     match mode::form_in(table) {
         Form::Bad => Perhaps::Refused(3),
@@ -108,7 +109,7 @@ pub fn rank_if_set(pages: &[u64], rows: &[u32], blocks: &[u32], table: &[u64], i
 
 // The members, as ranking counted them.
 pub fn total_count(pages: &[u64], rows: &[u32], blocks: &[u32], table: &[u64]) -> Amount
-    ensures { λ r. ⌜ TotalOf (memOf (pages .entry) (rows .entry) (blocks .entry) (table .entry)) r ⌝ }
+    ensures { λ r. ⌜ (let x = memOf (pages .entry) (rows .entry) (blocks .entry) (table .entry) in Answers x total-count (many r)) ⌝ }
 {
     match mode::form_in(table) {
         Form::Bad => Amount::Refused(3),

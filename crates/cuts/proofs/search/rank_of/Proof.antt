@@ -20,10 +20,10 @@ enum-told : tie.Need-enum-told
 enum-told c = search needs
 
 returns : tie.Need-returns
-returns c = let d = c .before .before .before .before .before .before .before .before .before in let a = d .args in rank-told (memOf (a .pages) (a .rows) (a .blocks) (a .table)) (a .n) _ _ (amount.Of (c .before .k .given .0 .0)) (signed-hop _ _ (c .before .before .before .before .signed .ensures) (d .pre)) (c .before .before .before .rank .ensures .by) (c .before .k .given .1)
+returns c = let d = c .before .before .before .before .before .before .before .before .before in let a = d .args in rank-told (memOf (a .pages) (a .rows) (a .blocks) (a .table)) (a .n) _ _ (amount.Of (c .before .k .given .0 .0)) (signed-hop _ _ (c .before .before .before .before .signed .ensures) (d .pre)) (c .before .before .before .rank .ensures) (c .before .k .given .1)
 
 returns-2 : tie.Need-returns-2
-returns-2 c = let d = c .before .before .before .before .before .before .before .before in let a = d .args in rank-told (memOf (a .pages) (a .rows) (a .blocks) (a .table)) (a .n) _ _ (amount.Refused (c .enum-told .given .0 .0)) (signed-hop _ _ (c .before .before .before .signed .ensures) (d .pre)) (c .before .before .rank .ensures .by) (c .enum-told .given .1)
+returns-2 c = let d = c .before .before .before .before .before .before .before .before in let a = d .args in rank-told (memOf (a .pages) (a .rows) (a .blocks) (a .table)) (a .n) _ _ (amount.Refused (c .enum-told .given .0 .0)) (signed-hop _ _ (c .before .before .before .signed .ensures) (d .pre)) (c .before .before .rank .ensures) (c .enum-told .given .1)
 
 pub rank-of-spec : {M : Type 1} → statement M
 rank-of-spec =

@@ -1,6 +1,10 @@
 -- The code of the wrapped answer, and its memory. Assumes nothing.
-use Rattle.layout.specs.Mem.{memOf}
-use Rattle.exports.specs.Codes.{outcomeCode, PreAllocates}
+use Rattle.layout.specs.Mem.{Mem, memOf}
+use lib.IntN.{ℤ}
+use Rattle.document.specs.Calls.{prepare, that}
+use Rattle.document.specs.declared.answer.Outcome.{Outcome}
+use Rattle.contracts.specs.Does.{Does}
+use Rattle.exports.specs.Codes.{outcomeCode}
 use Rattle.exports.proofs.Codes.{coded-into}
 use borrow.Author.Needs.{needs}
 use Rattle.exports.proofs.change.bp_pre_allocate.Statement.{statement}
@@ -27,7 +31,7 @@ same-length-4 c = search needs
 returns : tie.Need-returns
 returns c =
     let a = c .before .before .before .before .before .before .before .before .before .before .before .before .before .before .before .before .before .before in
-    coded-into outcomeCode (PreAllocates (memOf (a .args .pages) (a .args .rows) (a .args .blocks) (a .args .table))) (a .args .max) (a .fits .max) _ _ _ (c .of-outcome .ensures) (c .before .before .before .before .before .before .before .before .before .pre-allocate .ensures)
+    coded-into outcomeCode (λ (z : ℤ) (b : Outcome) (y : Mem). Does (memOf (a .args .pages) (a .args .rows) (a .args .blocks) (a .args .table)) (prepare z) (that b) y) (a .args .max) (a .fits .max) _ _ _ (c .of-outcome .ensures) (c .before .before .before .before .before .before .before .before .before .pre-allocate .ensures)
 
 pub bp-pre-allocate-spec : {M : Type 1} → statement M
 bp-pre-allocate-spec =

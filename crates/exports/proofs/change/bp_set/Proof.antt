@@ -1,6 +1,9 @@
 -- The code of the wrapped answer, and its memory. Assumes nothing.
-use Rattle.layout.specs.Mem.{memOf}
-use Rattle.inserts.specs.Calls.{Sets}
+use Rattle.layout.specs.Mem.{Mem, memOf}
+use lib.IntN.{ℤ}
+use Rattle.document.specs.Calls.{put, that}
+use Rattle.document.specs.declared.answer.Outcome.{Outcome}
+use Rattle.contracts.specs.Does.{Does}
 use Rattle.exports.specs.Codes.{outcomeCode}
 use Rattle.exports.proofs.Codes.{coded-into}
 use borrow.Author.Needs.{needs}
@@ -28,7 +31,7 @@ same-length-4 c = search needs
 returns : tie.Need-returns
 returns c =
     let a = c .before .before .before .before .before .before .before .before .before .before .before .before .before .before .before .before .before .before in
-    coded-into outcomeCode (Sets (memOf (a .args .pages) (a .args .rows) (a .args .blocks) (a .args .table))) (a .args .id) (a .fits .id) _ _ _ (c .of-outcome .ensures) (c .before .before .before .before .before .before .before .before .before .set .ensures)
+    coded-into outcomeCode (λ (z : ℤ) (b : Outcome) (y : Mem). Does (memOf (a .args .pages) (a .args .rows) (a .args .blocks) (a .args .table)) (put z) (that b) y) (a .args .id) (a .fits .id) _ _ _ (c .of-outcome .ensures) (c .before .before .before .before .before .before .before .before .before .set .ensures)
 
 pub bp-set-spec : {M : Type 1} → statement M
 bp-set-spec =

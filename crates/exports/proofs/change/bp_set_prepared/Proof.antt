@@ -1,6 +1,9 @@
 -- The code of the wrapped answer, and its memory. Assumes nothing.
-use Rattle.layout.specs.Mem.{memOf}
-use Rattle.inserts.specs.Calls.{SetsPrepared}
+use Rattle.layout.specs.Mem.{Mem, memOf}
+use lib.IntN.{ℤ}
+use Rattle.document.specs.Calls.{prepared, whether}
+use Rattle.document.specs.declared.answer.Truth.{Truth}
+use Rattle.contracts.specs.Does.{Does}
 use Rattle.exports.specs.Codes.{truthCode}
 use Rattle.exports.proofs.Codes.{coded-into}
 use borrow.Author.Needs.{needs}
@@ -28,7 +31,7 @@ same-length-4 c = search needs
 returns : tie.Need-returns
 returns c =
     let a = c .before .before .before .before .before .before .before .before .before .before .before .before .before .before .before .before .before .before in
-    coded-into truthCode (SetsPrepared (memOf (a .args .pages) (a .args .rows) (a .args .blocks) (a .args .table))) (a .args .id) (a .fits .id) _ _ _ (c .of-truth .ensures) (c .before .before .before .before .before .before .before .before .before .set-prepared .ensures)
+    coded-into truthCode (λ (z : ℤ) (b : Truth) (y : Mem). Does (memOf (a .args .pages) (a .args .rows) (a .args .blocks) (a .args .table)) (prepared z) (whether b) y) (a .args .id) (a .fits .id) _ _ _ (c .of-truth .ensures) (c .before .before .before .before .before .before .before .before .before .set-prepared .ensures)
 
 pub bp-set-prepared-spec : {M : Type 1} → statement M
 bp-set-prepared-spec =

@@ -2,8 +2,7 @@
 use mathlib.Core.Path.{_∙_, ap₂}
 use lib.IntN.{ℤ}
 use mir.Facts.{toZ-ofZ}
-use Rattle.sums.specs.Cuts.{inside}
-use Rattle.document.specs.Spans.{intervalOf}
+use Rattle.document.specs.Spans.{inPartition}
 use Rattle.document.specs.declared.plan.Span.{Span}
 use Rattle.exports.proofs.Codes.{span-read}
 use borrow.Author.Needs.{needs}
@@ -17,7 +16,7 @@ in-partition-requires : tie.Need-in-partition-requires
 in-partition-requires c κs = search needs
 
 returns : tie.Need-returns
-returns c = let a = c .before .before in c .in-partition .ensures ∙ ap₂ (λ (z : ℤ) (i : Span). inside z (intervalOf i)) (toZ-ofZ (a .fits .id)) (span-read (a .args .has-high) _ _ (a .fits .low) (a .fits .high) _ (c .before .span-of .ensures))
+returns c = let a = c .before .before in c .in-partition .ensures ∙ ap₂ (λ (z : ℤ) (i : Span). inPartition z i) (toZ-ofZ (a .fits .id)) (span-read (a .args .has-high) _ _ (a .fits .low) (a .fits .high) _ (c .before .span-of .ensures))
 
 pub bp-in-partition-spec : {M : Type 1} → statement M
 bp-in-partition-spec = tie.close (tie.spec span-of-requires in-partition-requires returns)

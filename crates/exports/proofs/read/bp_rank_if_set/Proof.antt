@@ -1,6 +1,9 @@
 -- The code of the wrapped answer. Assumes nothing.
 use Rattle.layout.specs.Mem.{memOf}
-use Rattle.ranked.specs.Answers.{RankIfOf}
+use lib.IntN.{ℤ}
+use Rattle.document.specs.Calls.{rank-if, maybe}
+use Rattle.document.specs.declared.answer.Perhaps.{Perhaps}
+use Rattle.contracts.specs.Does.{Answers}
 use Rattle.exports.specs.Codes.{perhapsCode}
 use Rattle.exports.proofs.Codes.{coded-at}
 use borrow.Author.Needs.{needs}
@@ -16,7 +19,7 @@ of-perhaps-requires c κs = search needs
 returns : tie.Need-returns
 returns c =
     let a = c .before .before .before .before .before .before in
-    coded-at perhapsCode (RankIfOf (memOf (a .args .pages) (a .args .rows) (a .args .blocks) (a .args .table))) (a .args .id) (a .fits .id) _ _ (c .of-perhaps .ensures) (c .before .rank-if-set .ensures)
+    coded-at perhapsCode (λ (z : ℤ) (b : Perhaps). Answers (memOf (a .args .pages) (a .args .rows) (a .args .blocks) (a .args .table)) (rank-if z) (maybe b)) (a .args .id) (a .fits .id) _ _ (c .of-perhaps .ensures) (c .before .rank-if-set .ensures)
 
 pub bp-rank-if-set-spec : {M : Type 1} → statement M
 bp-rank-if-set-spec = tie.close (tie.spec rank-if-set-requires of-perhaps-requires returns)

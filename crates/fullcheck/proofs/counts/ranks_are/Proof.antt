@@ -9,8 +9,8 @@ use Rattle.sums.specs.Sums.{sumTo}
 use Rattle.sums.proofs.Rules.{all-none, all-more}
 use Rattle.fullcheck.specs.Check.{sizeOfEntry, keptIf, prefixIs}
 use Rattle.fullcheck.proofs.Running.{size-le, size-more, prefix-passes, ranks-pass, size-none}
-use Rattle.fullcheck.proofs.ranks.ranks_are.Statement.{statement}
-use Rattle.fullcheck.proofs.ranks.ranks_are.Tie as tie
+use Rattle.fullcheck.proofs.counts.ranks_are.Statement.{statement}
+use Rattle.fullcheck.proofs.counts.ranks_are.Tie as tie
 
 abbrev Inv-loop : tie.InvT-loop
 Inv-loop pages table h ranked n ok₀ sum₀ e₀ ok sum e = (e ≤ n) × (sum ≤ 33554432 * e) × (sum ≡ keptIf ranked (sumTo (sizeOfEntry h pages table) e)) × (ok ≡ allTo (prefixIs h pages table) e)

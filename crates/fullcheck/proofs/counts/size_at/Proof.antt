@@ -6,8 +6,8 @@ use mathlib.Core.Bool.{true}
 use Rattle.fullcheck.proofs.Ways.{place-owned}
 use Rattle.layout.specs.declared.place.Place.the-variants.{Absent, Sparse, Dense}
 use Rattle.fullcheck.proofs.Running.{size-passes}
-use Rattle.fullcheck.proofs.ranks.size_at.Statement.{statement}
-use Rattle.fullcheck.proofs.ranks.size_at.Tie as tie
+use Rattle.fullcheck.proofs.counts.size_at.Statement.{statement}
+use Rattle.fullcheck.proofs.counts.size_at.Tie as tie
 
 place-at-requires : tie.Need-place-at-requires
 place-at-requires c κs = (c .before .before .pre .0 .sizes, omega (arith, c .before .before .pre .0))

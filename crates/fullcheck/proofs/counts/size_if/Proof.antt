@@ -1,8 +1,8 @@
 -- Nothing where the set is open.
 use Rattle.fullcheck.proofs.Running.{kept-no, kept-yes}
 use borrow.Author.Tests.{not-true, not-false}
-use Rattle.fullcheck.proofs.ranks.size_if.Statement.{statement}
-use Rattle.fullcheck.proofs.ranks.size_if.Tie as tie
+use Rattle.fullcheck.proofs.counts.size_if.Statement.{statement}
+use Rattle.fullcheck.proofs.counts.size_if.Tie as tie
 
 returns : tie.Need-returns
 returns c = kept-no (c .before .before .before .args .ranked) _ (not-true _ (c .if1 .taken))

@@ -3,8 +3,8 @@ use native.Mathlib.Omega.{arith}
 use Rattle.fullcheck.proofs.Ways.{part-inside, part-length}
 use Rattle.numbers.proofs.Powers.{powers}
 use Rattle.fullcheck.proofs.Running.{page-counted}
-use Rattle.fullcheck.proofs.ranks.page_size.Statement.{statement}
-use Rattle.fullcheck.proofs.ranks.page_size.Tie as tie
+use Rattle.fullcheck.proofs.counts.page_size.Statement.{statement}
+use Rattle.fullcheck.proofs.counts.page_size.Tie as tie
 
 page-at-requires : tie.Need-page-at-requires
 page-at-requires c κs = (c .before .pre .0, omega arith)
