@@ -1,5 +1,5 @@
 -- Every row of document 01's worked cases holds: memory's answers are computed, and they are the plain set's by the laws of histories. Assumes nothing.
-use mathlib.Core.Path.{_≡_, refl, sym, ap, ap₂, subst}
+use mathlib.Core.Path.{_≡_, refl, sym, ap, ap₂, subst, _∙_}
 use mathlib.Core.List.{List, [], _∷_, _++_, List·Memᴰ, List·Memᴰ·head, List·Memᴰ·tail}
 use mathlib.Core.Bool.{Bool, true, false, _&&_}
 use Prim.Native.Nat.{ℕ, _^_}
@@ -13,7 +13,7 @@ use borrow.Author.Tests.{ltb-true}
 use Rattle.sums.specs.Sums.{sumTo}
 use Rattle.sums.specs.Ids.{count}
 use Rattle.sums.specs.Rules.{allTo}
-use Rattle.sums.specs.Cases as plain-set
+use Rattle.sums.specs.Cases.{PlainCase, PlainSays, plainTable}
 use Rattle.sums.proofs.Rules.{both}
 use Rattle.sums.proofs.Cases.{cases as plain-cases}
 use Rattle.dense.specs.Bits.{bit, isSet, bitsTo, withBit, withRow}
@@ -21,7 +21,7 @@ use Rattle.sparse.specs.Search.{lowerIn, lowerOf, searchIn, spotIn}
 use Rattle.sparse.specs.Edit.{insertedAt}
 use Rattle.layout.specs.Places.{rowOwner, pageOwner}
 use Rattle.layout.specs.Entries.{chunkAt, wordAt, prefixAt, beside, wordOf}
-use Rattle.layout.specs.Meaning.{kinds}
+use Rattle.layout.specs.Meaning.{kinds, stateOf}
 use Rattle.layout.specs.Follows.{membersAt}
 use Rattle.layout.specs.Tests.{inRange, roomy, keyIs, placeIs, headIs, tableIs, walked}
 use Rattle.layout.specs.SetUp.{zeroed, freshTable, fresh, setUpBy}
@@ -32,16 +32,19 @@ use Rattle.steps.specs.Steps.{rowed, paged}
 use Rattle.calls.specs.Insert.{firstFree, planBy, insertBy, preparedPlan, preparedBy}
 use Rattle.calls.specs.Prepare.{densedTo, overNeeded, pagesNeeded, prepareBy}
 use Rattle.calls.specs.Counts.{goodAt, sizeBy, usedAt, partsOk, lenBy, hasAnyBy}
-use Rattle.document.specs.State.{State}
+use Rattle.document.specs.State.{State, empty}
 use Rattle.ranks.specs.Form.{prefixed, blocked, blockedTo, toRanked, rankUpBy}
 use Rattle.layout.specs.Seat.{seatIn}
 use Rattle.ranks.specs.Rank.{rankBy, rankIfBy}
-use Rattle.document.specs.Calls.{Call, insert, prepared, prepare, rank-up, leave, Fitting, Said}
-use Rattle.promises.specs.Asks.{asked}
-use Rattle.promises.specs.Stories.{Story, made, then, Told, reached}
-use Rattle.promises.specs.Cases.{tiny, blank, after, from, answers, heard, Case, calls, asks, kind, row, page, plain, Says, AllSay, memoryRows, plainRows, table}
-use Rattle.promises.proofs.Histories.{all-kept}
-use Rattle.promises.proofs.Answers.{kept-reads}
+use Rattle.document.specs.Calls.{Call, insert, put, prepared, prepare, rank-up, leave, Fitting, Said}
+use Rattle.document.specs.Answers.{answer, after, reply}
+use Rattle.layout.specs.Mem.{Mem}
+use Rattle.layout.specs.Follows.{Follows}
+use Rattle.contracts.specs.Runs.{ranBy}
+use Rattle.contracts.proofs.Steps.{does}
+use Rattle.contracts.proofs.SetUps.{sets-up}
+use Rattle.promises.proofs.Unique.{asked, asked-once, asked-some}
+use Rattle.promises.specs.Cases.{tiny, blank, describedBy, answers, reached, heard, start, Case, calls, asks, kind, row, page, plain, Says, AllSay, memoryRows, plainRows, table}
 
 -- ---- the ids of a row are i64
 
@@ -50,6 +53,7 @@ idFits z = ltb (mag z) (2 ^ 63)
 
 abbrev fits : Call → Bool
 fits (insert z) = idFits z
+fits (put z) = idFits z
 fits (prepared z) = idFits z
 fits (prepare z) = idFits z
 fits rank-up = true
@@ -64,39 +68,46 @@ id-fits z e = record { sfits = ltb-true (mag z) (2 ^ 63) e }
 
 fitting : (c : Call) → fits c ≡ true → Fitting c
 fitting (insert z) e = id-fits z e
+fitting (put z) e = id-fits z e
 fitting (prepared z) e = id-fits z e
 fitting (prepare z) e = id-fits z e
 fitting rank-up e = tt
 fitting leave e = tt
 
-after-told : (s : Story) (cs : List Call) → Told s → allFit cs ≡ true → Told (after s cs)
-after-told s [] t e = t
-after-told s (c ∷ cs) t e = let b = both (fits c) (allFit cs) e in after-told (then s c) cs (t, fitting c (b .0)) (b .1)
-
 -- ---- document 01's answers are memory's
 
-answers-heard : (s : Story) (cs : List Call) → Told s → allFit cs ≡ true → answers s cs ≡ heard (reached s) cs
-answers-heard s [] t e = refl
-answers-heard s (c ∷ cs) t e =
-    let b = both (fits c) (allFit cs) e in
-    let f = fitting c (b .0) in
-    ap₂ (λ (a : Said) (rs : List Said). a ∷ rs) (sym (all-kept (then s c) (t, f) .right .1)) (answers-heard (then s c) cs (t, f) (b .1))
+pub record Along (x : Mem) (q : State) (cs : List Call) : Type 0 where
+  pub follows : Follows (reached x cs)
+  pub state : stateOf (reached x cs) ≡ describedBy q cs
+  pub same : answers q cs ≡ heard x cs
 
-start-told : Told (made tiny blank)
+along : (x : Mem) (q : State) (cs : List Call) → Follows x → stateOf x ≡ q → allFit cs ≡ true → Along x q cs
+along x q [] w s u = record { follows = w; state = s; same = refl }
+along x q (c ∷ cs) w s u =
+    let b = both (fits c) (allFit cs) u in
+    let d = does x c (fitting c (b .0)) {a = ranBy x c .answer} {y = ranBy x c .after} refl .says w in
+    let k = along (ranBy x c .after) (after q c) cs (d .follows) (d .state ∙ ap (λ (p : State). after p c) s) (b .1) in
+    record {
+      follows = k .follows;
+      state = k .state;
+      same = ap₂ (λ (a : Said) (rs : List Said). a ∷ rs) (sym (d .said ∙ ap (λ (p : State). answer p c) s)) (k .same);
+    }
+
+start-made : Follows start × (stateOf start ≡ empty tiny)
 unfolding inRange roomy
-start-told = (range-of tiny .sound refl, room-of tiny blank .sound refl)
+start-made = let m = sets-up tiny blank {a = setUpBy tiny blank .answer} {y = start} refl .made (range-of tiny .sound refl) (room-of tiny blank .sound refl) in (m .1, m .2)
 
-from-told : (cs : List Call) → allFit cs ≡ true → Told (from cs)
-from-told cs e = after-told (made tiny blank) cs start-told e
+from-start : (cs : List Call) → allFit cs ≡ true → Along start (empty tiny) cs
+from-start cs u = along start (empty tiny) cs (start-made .0) (start-made .1) u
 
 -- ---- rows with what memory says
 
 abbrev computed : Case → Case
-computed (calls before cs rs) = calls before cs (heard (reached (from before)) cs)
-computed (asks before a r) = asks before a (asked (reached (from before)) a)
-computed (kind before c k) = kind before c (kinds (reached (from before)) c)
-computed (row before r o) = row before r (rowOwner tiny (reached (from before) .table) r)
-computed (page before p o) = page before p (pageOwner tiny (reached (from before) .table) p)
+computed (calls before cs rs) = calls before cs (heard (reached start before) cs)
+computed (asks before a r) = asks before a (asked (reached start before) a)
+computed (kind before c k) = kind before c (kinds (reached start before) c)
+computed (row before r o) = row before r (rowOwner tiny (reached start before .table) r)
+computed (page before p o) = page before p (pageOwner tiny (reached start before .table) p)
 computed (plain c) = plain c
 
 abbrev proper : Case → Bool
@@ -108,9 +119,15 @@ proper (page before p o) = true
 proper (plain c) = false
 
 computed-says : (c : Case) → proper c ≡ true → Says (computed c)
-computed-says (calls before cs rs) u = let b = both (allFit before) (allFit cs) u in (answers-heard (from before) cs (from-told before (b .0)) (b .1), refl)
-computed-says (asks before a r) u = (sym (kept-reads (from before) (all-kept (from before) (from-told before u)) .answers a), refl)
-computed-says (kind before c k) u = (sym (ap (λ (q : State). q .map c) (all-kept (from before) (from-told before u) .state)), refl)
+computed-says (calls before cs rs) u =
+    let b = both (allFit before) (allFit cs) u in
+    let k = from-start before (b .0) in
+    (along (reached start before) (describedBy (empty tiny) before) cs (k .follows) (k .state) (b .1) .same, refl)
+computed-says (asks before a r) u =
+    let k = from-start before u in
+    let m = asked-some (reached start before) a in
+    (sym (m .says (k .follows) ∙ ap (λ (q : State). reply q a) (k .state)), λ b d. asked-once (reached start before) a (d .by) (m .by))
+computed-says (kind before c k) u = (sym (ap (λ (q : State). q .map c) (from-start before u .state)), refl)
 computed-says (row before r o) u = refl
 computed-says (page before p o) u = refl
 computed-says (plain c) u = absurd (let z : _≡_ {A = ℕ} 0 1 = cc in omega arith)
@@ -138,7 +155,7 @@ memory-says : AllSay memoryRows
 memory-says = subst AllSay table-computed (all-say memoryRows table-proper)
 
 -- the rows about plain sets, and both together
-plain-says : (cs : List plain-set.Case) → ((c : plain-set.Case) → List·Memᴰ c cs → plain-set.Says c) → AllSay (plainRows cs)
+plain-says : (cs : List PlainCase) → ((c : PlainCase) → List·Memᴰ c cs → PlainSays c) → AllSay (plainRows cs)
 plain-says [] h = tt
 plain-says (c ∷ cs) h = (h c (List·Memᴰ·head refl), plain-says cs (λ d m. h d (List·Memᴰ·tail m)))
 
@@ -147,4 +164,4 @@ both-say [] ys a b = b
 both-say (x ∷ xs) ys a b = (a .0, both-say xs ys (a .1) b)
 
 pub table-says : AllSay table
-table-says = both-say memoryRows (plainRows plain-set.table) memory-says (plain-says plain-set.table plain-cases)
+table-says = both-say memoryRows (plainRows plainTable) memory-says (plain-says plainTable plain-cases)

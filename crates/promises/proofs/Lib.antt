@@ -1,9 +1,8 @@
-pub mod Steps
-pub mod Histories
-pub mod Answers
+pub mod SetUps
+pub mod Kept
 pub mod Refusals
-pub mod Outcomes
+pub mod Unique
 pub mod Returns
+pub mod Cutting
 pub mod Cases
-pub mod Plans
 pub mod Theorems

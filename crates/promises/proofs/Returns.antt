@@ -9,6 +9,9 @@ use Rattle.layout.specs.SetUp.{Did, did}
 use Rattle.document.specs.declared.sizes.Sizes.{Sizes}
 use Rattle.document.specs.declared.answer.Outcome.the-variants.{Done, Refused}
 use Rattle.layout_laws.proofs.Walked.{follows-walked}
+use Rattle.document.specs.Calls.{rank-up, leave, Said}
+use Rattle.contracts.specs.Runs.{Ran}
+use Rattle.contracts.specs.Does.{Does}
 use Rattle.ranks.specs.Form.{toRanked, toOpen, rankUpBy, openBy}
 use Rattle.ranks.proofs.Forms.{rank-up-says}
 use Rattle.ranks.proofs.Returns.{ranked-open}
@@ -25,8 +28,8 @@ leaves-it {y} w r =
     ap (λ (b : Bool). cond b (cond (ranked y) (did Done (toOpen (head y) y)) (did (Refused 5) y)) (did (Refused 3) y)) (follows-walked w)
     ∙ ap (λ (b : Bool). cond b (did Done (toOpen (head y) y)) (did (Refused 5) y)) r
 
-pub up-and-back : {x : Mem} → Follows x → ranked x ≡ false → openBy (rankUpBy x .after) .after ≡ x
-up-and-back {x} w o =
+model-back : {x : Mem} → Follows x → ranked x ≡ false → openBy (rankUpBy x .after) .after ≡ x
+model-back {x} w o =
     let e = ranks-up w o in
     let t = rank-up-says w in
     let y = rankUpBy x .after in
@@ -34,3 +37,10 @@ up-and-back {x} w o =
     ∙ ap (λ (h : Sizes). toOpen h y) (t .sizes)
     ∙ ap (λ (d : Did). toOpen (head x) (d .after)) e
     ∙ ranked-open w o
+
+-- whatever the two contracts allow
+pub up-and-back : {x : Mem} → Follows x → ranked x ≡ false → {a b : Said} {u v : Mem} → Does x rank-up a u → Does u leave b v → v ≡ x
+up-and-back {x} w o d e =
+    ap (λ (r : Ran). r .after) (e .by)
+    ∙ ap (λ (u : Mem). openBy u .after) (ap (λ (r : Ran). r .after) (d .by))
+    ∙ model-back w o

@@ -1,78 +1,141 @@
--- Demands 2 and 3 of document 01, for every history of calls on memory that set-up made; what a customer reads. Assumes nothing.
-use mathlib.Core.Path.{_≡_, sym, ap, subst, _∙_}
+-- What a customer reads: demands 1, 2 and 3 of the contracts themselves, for every history of calls on memory that set-up made. Assumes nothing.
+use mathlib.Core.Path.{_≡_, refl, sym, ap, subst, _∙_}
 use mathlib.Core.Bool.{Bool, true, false, cond}
 use Prim.Native.Nat.{ℕ, _<_}
 use mathlib.Core.List.{List}
 use lib.IntN.{ℤ, pos}
 use Rattle.sums.specs.Ids.{count, total, rank}
 use Rattle.sums.proofs.Ranks.{nth-member, nth-one}
-use Rattle.layout.specs.Mem.{Mem}
+use Rattle.document.specs.State.{State, empty}
+use Rattle.document.specs.Calls.{Call, Fitting, Ask, Said, whether, that, many, Refuses, rank-up, leave, rank-of, check}
+use Rattle.document.specs.Answers.{answer, rankAnswer, reply}
+use Rattle.document.specs.declared.sizes.Sizes.{Sizes}
+use Rattle.document.specs.declared.answer.Outcome.{Outcome}
+use Rattle.document.specs.declared.answer.Outcome.the-variants.{Done, Refused}
+use Rattle.document.specs.declared.answer.Truth.the-variants.{Is}
 use Rattle.document.specs.declared.answer.Amount.the-variants as amount
-use Rattle.document.specs.State.{State}
-use Rattle.document.specs.Calls.{Call, rank-up, leave, Fitting, Said, many, Refuses, Ask, rank-of}
-use Rattle.promises.specs.Calls.{said, left}
-use Rattle.promises.specs.Asks.{asked}
-use Rattle.promises.specs.Stories.{Story, then, Told, described, reached, Kept, Reads}
-use Rattle.promises.specs.Outcomes.{Public, Allowed}
+use Rattle.document.specs.declared.plan.Planning.{Planning}
+use Rattle.document.specs.declared.plan.Planning.the-variants as planning
+use Rattle.document.proofs.Threes.{answer-not-three, reply-not-three, plan-not-three}
+use Rattle.layout.specs.Mem.{Mem}
+use Rattle.layout.specs.Meaning.{stateOf, ranked}
+use Rattle.layout.specs.Follows.{Follows}
+use Rattle.layout.specs.SetUp.{Did, setUpBy}
+use Rattle.contracts.specs.Runs.{ranBy}
+use Rattle.contracts.specs.Runs as runs
+use Rattle.contracts.specs.Does.{Does, Answers, SetsUp}
+use Rattle.contracts.proofs.Steps.{does}
+use Rattle.contracts.proofs.SetUps.{sets-up}
+use Rattle.cuts.specs.Plan.{Cut, planBy}
+use Rattle.cuts.specs.Promise.{Plans}
+use Rattle.cuts.proofs.Plans.{plan-refused, plans-by}
+use Rattle.promises.specs.Histories.{Step, Ran, last, described, Kept}
+use Rattle.promises.specs.Cuts.{Cuts}
 use Rattle.promises.specs.Cases.{AllSay, table}
-use Rattle.promises.specs.Plans.{Cuts}
-use Rattle.promises.proofs.Histories.{all-kept}
-use Rattle.promises.proofs.Answers.{kept-reads}
-use Rattle.promises.proofs.Refusals.{refusal-stays, answer-not-three, reply-not-three}
-use Rattle.promises.proofs.Outcomes.{allowed-once}
+use Rattle.promises.proofs.SetUps.{fit, stays}
+use Rattle.promises.proofs.Kept.{all-kept}
+use Rattle.promises.proofs.Refusals.{model-stays}
+use Rattle.promises.proofs.Unique.{asked, asked-once, asked-some}
 use Rattle.promises.proofs.Returns.{up-and-back}
+use Rattle.promises.proofs.Cutting.{cut-set}
 use Rattle.promises.proofs.Cases.{table-says}
-use Rattle.promises.proofs.Plans.{cut-set}
 
--- memory follows the layout and stands for the set that the accepted calls describe, and every answer was document 01's
-pub kept : (s : Story) → Told s → Kept s
-kept s t = all-kept s t
+-- ---- demand 1: memory before fixes answer and memory after, whatever memory is
 
--- the full check says yes, and every reading call answers by that set
-pub reads : (s : Story) → Told s → Reads s
-reads s t = kept-reads s (kept s t)
+module _ (x : Mem) where
+  pub unique : (c : Call) (a b : Said) (y z : Mem) → Does x c a y → Does x c b z → (a ≡ b) × (y ≡ z)
+  unique c a b y z d e = let p = d .by ∙ sym (e .by) in (ap (λ (r : runs.Ran). r .answer) p, ap (λ (r : runs.Ran). r .after) p)
 
--- no call on such memory answers 3
-pub never-three : (s : Story) → Told s → (c : Call) → Fitting c → Refuses (said (reached s) c) 3 → ⊥
-never-three s t c f r = answer-not-three (described s) c (subst (λ (a : Said). Refuses a 3) (kept (then s c) (t, f) .right .1) r)
+  pub unique-answer : (k : Ask) (a b : Said) → Answers x k a → Answers x k b → a ≡ b
+  unique-answer k a b d e = asked-once x k (d .by) (e .by)
 
-pub never-three-reading : (s : Story) → Told s → (a : Ask) → Refuses (asked (reached s) a) 3 → ⊥
-never-three-reading s t a r = reply-not-three (described s) a (subst (λ (b : Said). Refuses b 3) (reads s t .answers a) r)
+  pub unique-set-up : (h : Sizes) (a b : Outcome) (y z : Mem) → SetsUp h x a y → SetsUp h x b z → (a ≡ b) × (y ≡ z)
+  unique-set-up h a b y z d e = let p = d .by ∙ sym (e .by) in (ap (λ (r : Did). r .answer) p, ap (λ (r : Did). r .after) p)
 
--- a refused call leaves memory as it was, whatever memory is
-pub refused-stays : (x : Mem) (c : Call) (n : ℕ) → Refuses (said x c) n → left x c ≡ x
-refused-stays = refusal-stays
+  pub unique-plan : (S : ℕ) (bs : List ℤ) (a b : Planning) (cs ds : List ℤ) → Plans x S bs a cs → Plans x S bs b ds → (a ≡ b) × (cs ≡ ds)
+  unique-plan S bs a b cs ds d e = let p = d .by ∙ sym (e .by) in (ap (λ (r : Cut). r .answer) p, ap (λ (r : Cut). r .bounds) p)
 
--- ranking an open set and leaving the ranked form reaches the same memory
-pub ranked-and-left : (s : Story) → Told s → described s .mode ≡ false → reached (then (then s rank-up) leave) ≡ reached s
-ranked-and-left s t o = let k = kept s t in up-and-back (k .follows) (ap (λ (q : State). q .mode) (k .state) ∙ o)
+  -- and there is one, for every id that is an i64
+  pub some : (c : Call) → Fitting c → Does x c (ranBy x c .answer) (ranBy x c .after)
+  some c f = does x c f refl
 
--- in a ranked set the k-th member in rising order, counted from 0, has rank k, and no other member has
-pub nth : (s : Story) → Told s → described s .mode ≡ true → (k : ℕ) → k < total (described s .members) →
-    (n : ℕ) × (described s .members n ≡ true) × (asked (reached s) (rank-of (pos n)) ≡ many (amount.Of k))
-    × ((m : ℕ) → described s .members m ≡ true → rank (described s .members) (pos m) ≡ k → m ≡ n)
-unfolding rank
-nth s t o k l =
-    let P = described s .members in
-    let w = nth-member P k l in
-    let n = w .0 in
-    let e : count P n ≡ k = w .3 in (
-      n,
-      w .2,
-      reads s t .answers (rank-of (pos n)) ∙ ap (λ (b : Bool). many (cond b (amount.Of (count P n)) (amount.Refused 5))) o ∙ ap (λ (j : ℕ). many (amount.Of j)) e,
-      λ m p q. nth-one P m n p (w .2) (q ∙ sym e),
-    )
+  pub some-answer : (k : Ask) → Answers x k (asked x k)
+  some-answer k = asked-some x k
 
--- demand 3, of a set that any history reaches and ranks, for every S and every room
-pub cuts : (s : Story) → Told s → described s .mode ≡ true → (S : ℕ) (bs : List ℤ) → Cuts (described s .members) (reached s) S bs
-cuts s t o S bs =
-    let k = kept s t in
-    subst (λ (q : State). Cuts (q .members) (reached s) S bs) (k .state) (cut-set (reached s) S bs (k .follows) (ap (λ (q : State). q .mode) (k .state) ∙ o))
+  pub some-set-up : (h : Sizes) → SetsUp h x (setUpBy h x .answer) (setUpBy h x .after)
+  some-set-up h = sets-up h x refl
 
--- memory before fixes answer and memory after
-pub unique : (x : Mem) (c : Public) (a b : Said) (y z : Mem) → Allowed x c a y → Allowed x c b z → (a ≡ b) × (y ≡ z)
-unique = allowed-once
+  pub some-plan : (S : ℕ) (bs : List ℤ) → Plans x S bs (planBy x S bs .answer) (planBy x S bs .bounds)
+  some-plan S bs = record { by = refl; says = plans-by S bs (planBy x S bs .answer) (planBy x S bs .bounds) refl }
 
--- every row of the worked cases holds
+  -- a refused call leaves memory, and boundaries, as they were
+  pub refused-stays : (c : Call) (a : Said) (y : Mem) (n : ℕ) → Does x c a y → Refuses a n → y ≡ x
+  refused-stays c a y n d r =
+      ap (λ (s : runs.Ran). s .after) (d .by) ∙ model-stays x c n (subst (λ (b : Said). Refuses b n) (ap (λ (s : runs.Ran). s .answer) (d .by)) r)
+
+  pub refused-stays-set-up : (h : Sizes) (y : Mem) (n : ℕ) → SetsUp h x (Refused n) y → y ≡ x
+  refused-stays-set-up h y n s = stays h x (s .by)
+
+  pub refused-stays-plan : (S : ℕ) (bs : List ℤ) (cs : List ℤ) (n : ℕ) → Plans x S bs (planning.Refused n) cs → cs ≡ bs
+  refused-stays-plan S bs cs n p =
+      ap (λ (c : Cut). c .bounds) (p .by) ∙ plan-refused x S bs n (sym (ap (λ (c : Cut). c .answer) (p .by)))
+
+-- ---- memory that follows the layout is never the cause of a 3
+
+module _ (x : Mem) (w : Follows x) where
+  pub never-three : (c : Call) (a : Said) (y : Mem) → Does x c a y → Refuses a 3 → ⊥
+  never-three c a y d r = answer-not-three (stateOf x) c (subst (λ (b : Said). Refuses b 3) (d .says w .said) r)
+
+  pub never-three-reading : (k : Ask) (a : Said) → Answers x k a → Refuses a 3 → ⊥
+  never-three-reading k a d r = reply-not-three (stateOf x) k (subst (λ (b : Said). Refuses b 3) (d .says w) r)
+
+  pub never-three-planning : (S : ℕ) (bs : List ℤ) (a : Planning) (cs : List ℤ) → Plans x S bs a cs → a ≡ planning.Refused 3 → ⊥
+  never-three-planning S bs a cs p e = let s = p .says w in plan-not-three (stateOf x) S _ (sym (s .answer) ∙ e)
+
+-- ---- demand 2: set-up made memory y, and then steps ran
+
+module _ (h : Sizes) (x y : Mem) (made : SetsUp h x Done y) (ss : List Step) (ran : Ran y ss) where
+  -- memory follows the layout and stands for the set that the accepted calls describe, and every answer was document 01's
+  pub kept : Kept y (empty h) ss
+  kept = let f = fit h x (made .by) in let m = made .made (f .0) (f .1) in all-kept y (empty h) ss (m .1) (m .2) ran
+
+  -- the set described
+  abbrev pub now : State
+  now = described (empty h) ss
+
+  -- every reading call answers by that set, and the full check says yes
+  pub reads : (k : Ask) (a : Said) → Answers (last y ss) k a → a ≡ reply now k
+  reads k a d = d .says (kept .follows) ∙ ap (λ (q : State). reply q k) (kept .state)
+
+  pub check-says-yes : (a : Said) → Answers (last y ss) check a → a ≡ whether (Is true)
+  check-says-yes a d = reads check a d
+
+  -- ranking an open set and leaving the ranked form reaches the same memory
+  pub ranked-and-left : now .mode ≡ false → (a b : Said) (u v : Mem) → Does (last y ss) rank-up a u → Does u leave b v → v ≡ last y ss
+  ranked-and-left o a b u v d e = up-and-back (kept .follows) (ap (λ (q : State). q .mode) (kept .state) ∙ o) d e
+
+  -- in a ranked set the k-th member in rising order, counted from 0, has rank k, and no other member has
+  pub nth : now .mode ≡ true → (k : ℕ) → k < total (now .members) →
+      (n : ℕ) × (now .members n ≡ true) × ((a : Said) → Answers (last y ss) (rank-of (pos n)) a → a ≡ many (amount.Of k))
+      × ((m : ℕ) → now .members m ≡ true → rank (now .members) (pos m) ≡ k → m ≡ n)
+  unfolding rank rankAnswer
+  nth o k l =
+      let P = now .members in
+      let w = nth-member P k l in
+      let n = w .0 in
+      let e : count P n ≡ k = w .3 in (
+        n,
+        w .2,
+        λ a d. reads (rank-of (pos n)) a d ∙ ap (λ (b : Bool). many (cond b (amount.Of (count P n)) (amount.Refused 5))) o ∙ ap (λ (j : ℕ). many (amount.Of j)) e,
+        λ m p q. nth-one P m n p (w .2) (q ∙ sym e),
+      )
+
+  -- ---- demand 3: planning the set that a history reaches and ranks, for every S and every room
+  pub cuts : now .mode ≡ true → (S : ℕ) (bs : List ℤ) (a : Planning) (cs : List ℤ) → Plans (last y ss) S bs a cs → Cuts (now .members) S bs a cs
+  cuts o S bs a cs p =
+      let s = p .says (kept .follows) in
+      subst (λ (q : State). Cuts (q .members) S bs a cs) (kept .state) (cut-set (stateOf (last y ss)) S bs a cs s (ap (λ (q : State). q .mode) (kept .state) ∙ o))
+
+-- ---- every row of the worked cases holds
 pub cases : AllSay table
 cases = table-says

@@ -5,22 +5,21 @@ use mathlib.Core.List.{List, [], _∷_, _++_}
 use mathlib.Core.Bool.{true, false}
 use lib.IntN.{ℤ, pos, negsuc}
 use lib.ListN.{replicate}
-use Rattle.sums.specs.Cases as plain-set
+use Rattle.sums.specs.Cases.{PlainCase, PlainSays, plainTable}
 use Rattle.layout.specs.Mem.{Mem, mem}
 use Rattle.layout.specs.Places.{rowOwner, pageOwner}
-use Rattle.document.specs.State.{Kind, sparse, dense}
+use Rattle.document.specs.State.{Kind, sparse, dense, State, empty}
 use Rattle.layout.specs.Meaning.{kinds}
-use Rattle.layout.specs.SetUp.{sizesOf}
+use Rattle.layout.specs.SetUp.{sizesOf, setUpBy}
 use Rattle.document.specs.declared.sizes.Sizes.{Sizes}
 use Rattle.document.specs.declared.answer.Outcome.the-variants as outcome
 use Rattle.document.specs.declared.answer.Truth.the-variants as truth
 use Rattle.document.specs.declared.answer.Amount.the-variants as amount
 use Rattle.document.specs.declared.answer.Perhaps.the-variants as perhaps
-use Rattle.document.specs.Answers.{answer, reply}
+use Rattle.document.specs.Answers.{answer, after, reply}
 use Rattle.document.specs.Calls.{Call, insert, prepared, prepare, rank-up, Said, whether, that, many, maybe, Ask, len, has-any, rank-of, rank-if}
-use Rattle.promises.specs.Calls.{said, left}
-use Rattle.promises.specs.Asks.{asked}
-use Rattle.promises.specs.Stories.{Story, made, then, described, reached}
+use Rattle.contracts.specs.Runs.{ranBy}
+use Rattle.contracts.specs.Does.{Answers}
 
 -- slices of zeros that are just long enough
 abbrev pub tiny : Sizes
@@ -29,23 +28,27 @@ tiny = sizesOf 9 4 2 1 2 1
 abbrev pub blank : Mem
 blank = mem (replicate 8 0) (replicate 8 0) (replicate 1 0) (replicate 26 0)
 
--- the story of calls one after the other
-abbrev pub after : Story → List Call → Story
-after s [] = s
-after s (c ∷ cs) = after (then s c) cs
+-- ---- calls one after the other: by document 01's words, and by the models of the contracts
 
--- the history of calls on a fresh set
-abbrev pub from : List Call → Story
-from cs = after (made tiny blank) cs
+abbrev pub describedBy : State → List Call → State
+describedBy q [] = q
+describedBy q (c ∷ cs) = describedBy (after q c) cs
 
--- answers along the way: document 01's, and memory's
-abbrev pub answers : Story → List Call → List Said
-answers s [] = []
-answers s (c ∷ cs) = answer (described s) c ∷ answers (then s c) cs
+abbrev pub answers : State → List Call → List Said
+answers q [] = []
+answers q (c ∷ cs) = answer q c ∷ answers (after q c) cs
+
+abbrev pub reached : Mem → List Call → Mem
+reached x [] = x
+reached x (c ∷ cs) = reached (ranBy x c .after) cs
 
 abbrev pub heard : Mem → List Call → List Said
 heard x [] = []
-heard x (c ∷ cs) = said x c ∷ heard (left x c) cs
+heard x (c ∷ cs) = ranBy x c .answer ∷ heard (ranBy x c .after) cs
+
+-- a fresh set
+abbrev pub start : Mem
+start = setUpBy tiny blank .after
 
 -- a row: calls on a fresh set, and then
 pub data Case : Type 0 where
@@ -59,16 +62,16 @@ pub data Case : Type 0 where
   row : List Call → ℕ → ℕ → Case
   page : List Call → ℕ → ℕ → Case
   -- a case about a plain set
-  plain : plain-set.Case → Case
+  plain : PlainCase → Case
 
--- by the plain set and by memory
+-- by the plain set, and by every answer that the contracts allow
 abbrev pub Says : Case → Type 0
-Says (calls before cs rs) = (answers (from before) cs ≡ rs) × (heard (reached (from before)) cs ≡ rs)
-Says (asks before a r) = (reply (described (from before)) a ≡ r) × (asked (reached (from before)) a ≡ r)
-Says (kind before c k) = (described (from before) .map c ≡ k) × (kinds (reached (from before)) c ≡ k)
-Says (row before r o) = rowOwner tiny (reached (from before) .table) r ≡ o
-Says (page before p o) = pageOwner tiny (reached (from before) .table) p ≡ o
-Says (plain c) = plain-set.Says c
+Says (calls before cs rs) = (answers (describedBy (empty tiny) before) cs ≡ rs) × (heard (reached start before) cs ≡ rs)
+Says (asks before k r) = (reply (describedBy (empty tiny) before) k ≡ r) × ((a : Said) → Answers (reached start before) k a → a ≡ r)
+Says (kind before c k) = (describedBy (empty tiny) before .map c ≡ k) × (kinds (reached start before) c ≡ k)
+Says (row before r o) = rowOwner tiny (reached start before .table) r ≡ o
+Says (page before p o) = pageOwner tiny (reached start before .table) p ≡ o
+Says (plain c) = PlainSays c
 
 abbrev pub AllSay : List Case → Type 0
 AllSay [] = Unit
@@ -141,9 +144,9 @@ memoryRows =
     ∷ []
 
 -- e to i of plain sets, the plans among them
-abbrev pub plainRows : List plain-set.Case → List Case
+abbrev pub plainRows : List PlainCase → List Case
 plainRows [] = []
 plainRows (c ∷ cs) = plain c ∷ plainRows cs
 
 abbrev pub table : List Case
-table = memoryRows ++ plainRows plain-set.table
+table = memoryRows ++ plainRows plainTable

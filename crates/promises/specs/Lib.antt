@@ -1,6 +1,3 @@
-pub mod Calls
-pub mod Asks
-pub mod Stories
-pub mod Outcomes
+pub mod Histories
+pub mod Cuts
 pub mod Cases
-pub mod Plans

@@ -1,1 +1,1 @@
-// No code: demands 2 and 3 over histories of calls.
+// No code: demands 1, 2 and 3 over the contracts of the calls.
