@@ -5,4 +5,7 @@ pub mod Unique
 pub mod Returns
 pub mod Cutting
 pub mod Cases
+pub mod Ensures
+pub mod Contracts
+pub mod Entries
 pub mod Theorems
