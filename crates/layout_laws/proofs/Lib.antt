@@ -11,3 +11,4 @@ pub mod Ranks
 pub mod ChunkCounts
 pub mod Fresh
 pub mod SetUp
+pub mod StandsFor
