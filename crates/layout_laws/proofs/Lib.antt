@@ -12,3 +12,4 @@ pub mod ChunkCounts
 pub mod Fresh
 pub mod SetUp
 pub mod StandsFor
+pub mod Spares

@@ -6,3 +6,4 @@ pub mod Slots
 pub mod Rowed
 pub mod Paged
 pub mod Lent
+pub mod Spares
