@@ -15,7 +15,7 @@ pub mod Rowings
 pub mod Enters
 pub mod Turns
 pub mod Inserting
-pub mod PageOwners
 pub mod Needed
 pub mod Sofar
 pub mod Preparing
+pub mod PreparedFree

@@ -18,7 +18,7 @@ use Rattle.document.specs.declared.sizes.Sizes.{Sizes}
 use Rattle.document.specs.declared.answer.Truth.the-variants as truth
 use Rattle.document.specs.declared.answer.Outcome.the-variants.{Done, Refused}
 use Rattle.calls.specs.Insert.{planBy, actSplit, answerOf, insertBy, preparedPlan, preparedBy}
-use Rattle.calls.specs.Prepare.{work, densedTo, overNeeded, pagesNeeded, prepareTo, prepareId, prepareBy}
+use Rattle.calls.specs.Prepare.{densedTo, overNeeded, pagesNeeded, prepareTo, prepareId, prepareBy}
 use Rattle.calls.specs.declared.plan.Plan.{Plan}
 use Rattle.calls.specs.declared.plan.Plan.the-variants.{Refuse, Known, Mark, Enter, Begin, Turn}
 
@@ -61,9 +61,9 @@ same-done x y n e = absurd (let z : _≡_ {A = ℕ} 0 1 = cc in omega arith)
 
 same-to : (h : Sizes) (x : Mem) (c : ℕ) → Same x (prepareTo h x c)
 same-to h x c =
-    let d = did Done (densedTo h (work x 0) (c + 1) .mem) in
+    let d = did Done (densedTo h x (c + 1)) in
     same-cond x (ltb (h .v) (overNeeded h (x .table) c)) (did (Refused 6) x) (cond (ltb (h .p) (pagesNeeded h (x .table) c)) (did (Refused 8) x) d) (same-refused x 6)
-    (same-cond x (ltb (h .p) (pagesNeeded h (x .table) c)) (did (Refused 8) x) d (same-refused x 8) (same-done x (densedTo h (work x 0) (c + 1) .mem)))
+    (same-cond x (ltb (h .p) (pagesNeeded h (x .table) c)) (did (Refused 8) x) d (same-refused x 8) (same-done x (densedTo h x (c + 1))))
 
 same-id : (x : Mem) (z : ℤ) → Same x (prepareId x z)
 same-id x (pos n) = same-to (head x) x (n / top (head x))
