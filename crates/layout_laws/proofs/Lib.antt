@@ -12,4 +12,5 @@ pub mod ChunkCounts
 pub mod Fresh
 pub mod SetUp
 pub mod StandsFor
+pub mod Crowds
 pub mod Spares

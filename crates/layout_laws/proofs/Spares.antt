@@ -8,10 +8,10 @@ use native.Mathlib.Omega.{arith}
 use lib.ListN.{length, getD, set, length-set}
 use lib.Seq.{getD-set-other}
 use lib.Dec.{leb, ltb, eqb}
-use borrow.Author.Tests.{leb-true, ltb-true, ltb-false, eqb-true, lt-ltb, eq-eqb}
+use borrow.Author.Tests.{leb-true, ltb-true, ltb-false, eqb-true, eqb-false, lt-ltb, eq-eqb}
 use Rattle.layout.specs.Mem.{Mem}
 use Rattle.layout.specs.Sizes.{RoomIn, wide, blocksOf, directAt, overAt, rowOwnersAt, pageOwnersAt, tableSize, overCount, headerAt}
-use Rattle.layout.specs.Entries.{prefixPlace}
+use Rattle.layout.specs.Entries.{entries, chunkAt, prefixPlace}
 use Rattle.layout.specs.Short.{overPlace, overWord, entriesIn, directWord, overflowWord, wordIn}
 use Rattle.layout.specs.Tests.{inRange, roomIn}
 use Rattle.layout.specs.SetUp.{Did, did, zeroed, fresh, setUpBy}
@@ -24,7 +24,11 @@ use Rattle.layout.proofs.Tests.{room-of}
 use Rattle.layout.proofs.Parts.{length-put, put-off}
 use Rattle.layout.proofs.Added.{added-length, added-high}
 use Rattle.layout_laws.proofs.Sizes.{slot-inside}
-use Rattle.layout_laws.proofs.Halving.{lower-between}
+use Rattle.layout_laws.proofs.Keys.{cut-missed}
+use Rattle.layout_laws.proofs.Entries as ids
+use Rattle.layout_laws.proofs.Entries.{chunk-direct, chunk-over, Which, which, Ordered}
+use Rattle.layout_laws.proofs.Halving.{lower-between, lower-first}
+use Rattle.layout_laws.proofs.Short.{over-rising}
 use Rattle.layout_laws.proofs.Fresh.{zeroed-past, zeroed-length, fresh-table-past, fresh-table-length}
 
 -- ---- a write below n leaves what lies from n on
@@ -134,6 +138,34 @@ module _ (h : Sizes) (t : List ℕ) (c : ℕ) where
       over (direct l) ge = absurd (omega arith)
       over (left free) ge = over-left h t c w (sought h t c) sought-inside free
       over (own o) ge = over-own h t c w (sought h t c) (o .there) (o .is) (o .inside)
+
+-- where ids rise, a chunk with an entry has room, and one without takes what is left of the V
+module _ (h : Sizes) (t : List ℕ) (o : Ordered h t) (fits : overCount t ≤ h .v) (c : ℕ) (free : ((e : ℕ) → e < entries h t → chunkAt h t e ≢ c) → overCount t < h .v) where
+  abbrev key : ℕ → ℕ
+  key = λ (j : ℕ). getD t (overAt h j) 0
+
+  pub room-ordered : EntryRoom h t c
+  room-ordered = go (ltb c (h .d)) refl
+    where
+      missed : h .d ≤ c → ((j : ℕ) → j < overCount t → key j ≢ c) → (e : ℕ) → e < entries h t → Which (h .d) e → chunkAt h t e ≢ c
+      missed ge none e l (ids.direct m) = let q = chunk-direct h t e m in omega arith
+      missed ge none e l (ids.over j q) = λ r. none j (omega arith) (sym (ap (chunkAt h t) q ∙ chunk-over h t j) ∙ r)
+
+      new : h .d ≤ c → (sought h t c < overCount t → key (sought h t c) ≢ c) → EntryRoom h t c
+      new ge not =
+          let up = over-rising h t o in
+          left (free (λ e l. missed ge (cut-missed key (overCount t) (sought h t c) c up (lower-first key (overCount t) c up) not) e l (which (h .d) e)))
+
+      over : h .d ≤ c → (a : Bool) → ltb (sought h t c) (overCount t) ≡ a → (b : Bool) → eqb (key (sought h t c)) c ≡ b → EntryRoom h t c
+      over ge true p true q =
+          let l = ltb-true (sought h t c) (overCount t) p in
+          own (record { there = l; is = eqb-true (key (sought h t c)) c q; inside = omega arith })
+      over ge true p false q = new ge (λ l. eqb-false (key (sought h t c)) c q)
+      over ge false p b q = new ge (λ l. absurd (let m = ltb-false (sought h t c) (overCount t) p in omega arith))
+
+      go : (b : Bool) → ltb c (h .d) ≡ b → EntryRoom h t c
+      go true e = direct (ltb-true c (h .d) e)
+      go false e = over (ltb-false c (h .d) e) (ltb (sought h t c) (overCount t)) refl (eqb (key (sought h t c)) c) refl
 
 -- a chunk whose word is found, and not 0, has an entry
 module _ (t : List ℕ) (c w : ℕ) (fits : overCount t ≤ headerAt t .v) (some : w ≢ 0) where
