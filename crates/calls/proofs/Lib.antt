@@ -19,3 +19,4 @@ pub mod Needed
 pub mod Sofar
 pub mod Preparing
 pub mod PreparedFree
+pub mod PrepareSpares

@@ -23,14 +23,17 @@ use Rattle.layout_laws.proofs.ChunkCounts.{count-not}
 -- ---- keys that rise
 
 module _ (key : ℕ → ℕ) (n : ℕ) (up : Rising key n) where
-  pub rising-by-one : (i j : ℕ) → i + j < n → key i + j ≤ key (i + j)
+  rising-by-one : (i j : ℕ) → i + j < n → key i + j ≤ key (i + j)
   rising-by-one i zero l = let e : i + 0 ≡ i = omega arith in let k = ap key e in omega arith
   rising-by-one i (suc j) l = let r = rising-by-one i j (omega arith) in let s = up (i + j) (i + suc j) (omega arith) l in omega arith
+
+  pub rising-least : (e : ℕ) → e < n → e ≤ key e
+  rising-least e l = let r = rising-by-one 0 e (omega arith) in let q : 0 + e ≡ e = omega arith in let k = ap key q in omega arith
 
   -- at most N of them are below N
   crowd : (k N : ℕ) → Cut key n k N → k ≤ N
   crowd zero N u = omega arith
-  crowd (suc j) N u = let f = u .fits in let r = rising-by-one 0 j (omega arith) in let b = u .before (0 + j) (omega arith) in omega arith
+  crowd (suc j) N u = let f = u .fits in let r = rising-least j (omega arith) in let b = u .before j (omega arith) in omega arith
 
   -- and fewer, where m is not among them
   crowd-missed : (k c m : ℕ) → Cut key n k (c + 1) → m ≤ c → ((e : ℕ) → e < n → key e ≢ m) → k ≤ c
