@@ -27,6 +27,6 @@ sets-up h x e =
       outside = λ n. parts (e ∙ set-up-sizes h x n);
       short = λ z n. parts (e ∙ set-up-short h x z n);
       made = λ z r.
-        let p = parts (e ∙ set-up-done h x z r) in
-        (p .0, subst Follows (sym (p .1)) (fresh-follows h x z r), ap stateOf (p .1) ∙ fresh-empty h x z r);
+          let p = parts (e ∙ set-up-done h x z r) in
+          (p .0, subst Follows (sym (p .1)) (fresh-follows h x z r), ap stateOf (p .1) ∙ fresh-empty h x z r);
     }

@@ -3,11 +3,11 @@ ghost use mathlib.Core.Path.{_≡_};
 ghost use Rattle.sums.specs.Cuts.{inside};
 ghost use Rattle.document.specs.Spans.{intervalOf, recordOk, planOk, lowAt, idsAnswer, ranksAnswer, rangeMeets};
 use crate::bound;
+use crate::round;
 use document::plan::Plan;
 use document::plan::Ranks;
 use document::plan::Span;
 use document::plan::Spanned;
-use crate::round;
 use numbers::order;
 
 // The smallest i64: where partition 0 begins.

@@ -9,8 +9,8 @@ ghost use Rattle.ranked.specs.Answers.{RankedUp, Opened};
 ghost use Rattle.exports.specs.Codes.{Coded, outcomeCode, truthCode, PreAllocates};
 use crate::answer;
 use crate::answer::Answer;
+use idset::setup;
 use inserts::insert;
-use layout::setup;
 use ranked::form;
 
 // An empty open set of these sizes, in lent memory.

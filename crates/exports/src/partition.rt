@@ -10,9 +10,9 @@ use crate::cut::IdsAnswer;
 use crate::cut::PlanAnswer;
 use crate::cut::RanksAnswer;
 use cuts::interval;
+use cuts::planning;
 use document::plan::Plan;
 use document::plan::Span;
-use cuts::planning;
 
 // Cuts a ranked set into partitions of at most s members: boundaries to the lent slice.
 #[no_mangle]

@@ -12,8 +12,8 @@ ghost use Rattle.layout.specs.Mem.{memOf};
 ghost use Rattle.layout.specs.Tests.{Walked};
 ghost use Rattle.layout.specs.Follows.{Follows};
 ghost use Rattle.fullcheck.specs.Check.{restIs};
-use layout::head;
 use document::sizes::Sizes;
+use layout::head;
 use layout::walk;
 
 // What the walk over the table leaves of the rule, sentence by sentence.

@@ -1,6 +1,7 @@
 // Counts of members and of chunks, in both modes. The run tests each entry as it comes.
 ghost use Rattle.layout.specs.Mem.{memOf};
-ghost use Rattle.idset.specs.Answers.{Len, IsEmpty, HasAny, ChunkCount};
+ghost use Rattle.document.specs.Calls.{len, is-empty, has-any, chunk-count, whether, many};
+ghost use Rattle.contracts.specs.Does.{Answers};
 use crate::entries;
 use document::answer::Amount;
 use document::answer::Truth;
@@ -8,7 +9,7 @@ use layout::entry;
 
 // The members.
 pub fn len(pages: &[u64], rows: &[u32], blocks: &[u32], table: &[u64]) -> Amount
-    ensures { λ r. ⌜ Len (memOf (pages .entry) (rows .entry) (blocks .entry) (table .entry)) r ⌝ }
+    ensures { λ r. ⌜ (let x = memOf (pages .entry) (rows .entry) (blocks .entry) (table .entry) in Answers x len (many r)) ⌝ }
 {
     if !entries::are(table) {
         return Amount::Refused(3);
@@ -31,7 +32,7 @@ pub fn len(pages: &[u64], rows: &[u32], blocks: &[u32], table: &[u64]) -> Amount
 
 // Whether there is no member.
 pub fn is_empty(pages: &[u64], rows: &[u32], blocks: &[u32], table: &[u64]) -> Truth
-    ensures { λ r. ⌜ IsEmpty (memOf (pages .entry) (rows .entry) (blocks .entry) (table .entry)) r ⌝ }
+    ensures { λ r. ⌜ (let x = memOf (pages .entry) (rows .entry) (blocks .entry) (table .entry) in Answers x is-empty (whether r)) ⌝ }
 {
     if !entries::are(table) {
         return Truth::Refused(3);
@@ -54,7 +55,7 @@ pub fn is_empty(pages: &[u64], rows: &[u32], blocks: &[u32], table: &[u64]) -> T
 
 // Whether there is a chunk, be it empty.
 pub fn has_any(pages: &[u64], rows: &[u32], blocks: &[u32], table: &[u64]) -> Truth
-    ensures { λ r. ⌜ HasAny (memOf (pages .entry) (rows .entry) (blocks .entry) (table .entry)) r ⌝ }
+    ensures { λ r. ⌜ (let x = memOf (pages .entry) (rows .entry) (blocks .entry) (table .entry) in Answers x has-any (whether r)) ⌝ }
 {
     if !entries::are(table) {
         return Truth::Refused(3);
@@ -72,7 +73,7 @@ pub fn has_any(pages: &[u64], rows: &[u32], blocks: &[u32], table: &[u64]) -> Tr
 
 // The chunks, empty ones too.
 pub fn allocated_chunk_count(pages: &[u64], rows: &[u32], blocks: &[u32], table: &[u64]) -> Amount
-    ensures { λ r. ⌜ ChunkCount (memOf (pages .entry) (rows .entry) (blocks .entry) (table .entry)) r ⌝ }
+    ensures { λ r. ⌜ (let x = memOf (pages .entry) (rows .entry) (blocks .entry) (table .entry) in Answers x chunk-count (many r)) ⌝ }
 {
     if !entries::are(table) {
         return Amount::Refused(3);

@@ -1,5 +1,6 @@
-// The calls on a set: membership, counts, inserts.
+// The calls on a set: set-up, membership, counts.
 mod chunk;
 pub mod count;
 mod entries;
 pub mod read;
+pub mod setup;

@@ -1,6 +1,7 @@
 // Membership and chunk ids, in both modes.
 ghost use Rattle.layout.specs.Mem.{memOf};
-ghost use Rattle.idset.specs.Answers.{Gets, ChunkOf};
+ghost use Rattle.document.specs.Calls.{get, chunk-of, whether, maybe};
+ghost use Rattle.contracts.specs.Does.{Answers};
 use crate::chunk;
 use document::answer::Perhaps;
 use document::answer::Truth;
@@ -11,7 +12,7 @@ use numbers::place as element;
 
 // Whether an id is a member. A negative one never is.
 pub fn get(pages: &[u64], rows: &[u32], blocks: &[u32], table: &[u64], id: i64) -> Truth
-    ensures { λ r. ⌜ Gets (memOf (pages .entry) (rows .entry) (blocks .entry) (table .entry)) id r ⌝ }
+    ensures { λ r. ⌜ (let x = memOf (pages .entry) (rows .entry) (blocks .entry) (table .entry) in Answers x (get id) (whether r)) ⌝ }
 {
     let s = element::at(table, 0);
     if !((9 <= s) & (s <= 25)) {
@@ -25,7 +26,7 @@ pub fn get(pages: &[u64], rows: &[u32], blocks: &[u32], table: &[u64], id: i64) 
 
 // The chunk that an id lives in, none for a negative one.
 pub fn chunk_of(pages: &[u64], rows: &[u32], blocks: &[u32], table: &[u64], id: i64) -> Perhaps
-    ensures { λ r. ⌜ ChunkOf (memOf (pages .entry) (rows .entry) (blocks .entry) (table .entry)) id r ⌝ }
+    ensures { λ r. ⌜ (let x = memOf (pages .entry) (rows .entry) (blocks .entry) (table .entry) in Answers x (chunk-of id) (maybe r)) ⌝ }
 {
     let s = element::at(table, 0);
     if !((9 <= s) & (s <= 25)) {

@@ -6,9 +6,9 @@ ghost use Rattle.document.specs.Sizes.{InRange};
 ghost use Rattle.layout.specs.Sizes.{headerAt, overAt};
 ghost use Rattle.layout.specs.Places.{rowOwner, pageOwner};
 ghost use Rattle.layout.specs.Entries.{chunkAt, wordAt, prefixAt, placeAt};
-use document::sizes::Sizes;
 use crate::place;
 use crate::place::Place;
+use document::sizes::Sizes;
 use numbers::place as element;
 
 // The chunk id of entry e: e itself for a direct one.

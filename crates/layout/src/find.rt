@@ -3,9 +3,9 @@ ghost use mathlib.Core.Path.{_≡_};
 ghost use Prim.Native.Nat.{_+_, _*_, _^_, _≤_, _<_};
 ghost use Rattle.layout.specs.Sizes.{overCount};
 ghost use Rattle.layout.specs.Short.{overPlace, overWord, entriesIn, overflowWord, wordIn, spotOf};
-use document::sizes::Sizes;
 use crate::place;
 use crate::place::Place;
+use document::sizes::Sizes;
 use numbers::place as element;
 use numbers::power;
 

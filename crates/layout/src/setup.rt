@@ -8,8 +8,7 @@ ghost use Rattle.layout.specs.Mem.{memOf};
 ghost use Rattle.document.specs.Sizes.{InRange};
 ghost use Rattle.layout.specs.Sizes.{Roomy, tableSize};
 ghost use Rattle.layout.specs.Tests.{inRange, roomy};
-ghost use Rattle.layout.specs.SetUp.{did, sizesOf, zeroed, freshTable, fresh, setUpBy};
-use document::answer::Outcome;
+ghost use Rattle.layout.specs.SetUp.{zeroed, freshTable, fresh};
 use crate::head;
 use document::sizes::Sizes;
 
@@ -87,34 +86,4 @@ pub fn refusal(h: Sizes, pages: u64, rows: u64, blocks: u64, table: u64) -> u64
         return 2;
     }
     0
-}
-
-// Makes an empty open set of these sizes in lent memory, whatever it held, or refuses and changes nothing.
-pub fn set_up(
-    s: u64,
-    m: u64,
-    d: u64,
-    v: u64,
-    r: u64,
-    p: u64,
-    pages: &mut [u64],
-    rows: &mut [u32],
-    blocks: &mut [u32],
-    table: &mut [u64],
-) -> Outcome
-    ensures { λ o. ⌜ did o (memOf (pages .exit) (rows .exit) (blocks .exit) (table .exit)) ≡ setUpBy (sizesOf s m d v r p) (memOf (pages .entry) (rows .entry) (blocks .entry) (table .entry)) ⌝ }
-{
-    let h = Sizes { s, m, d, v, r, p };
-    let k = refusal(
-        h,
-        pages.len() as u64,
-        rows.len() as u64,
-        blocks.len() as u64,
-        table.len() as u64,
-    );
-    if k != 0 {
-        return Outcome::Refused(k);
-    }
-    make_fresh(h, pages, rows, blocks, table);
-    Outcome::Done
 }

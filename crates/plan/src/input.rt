@@ -1,7 +1,7 @@
 // Standard input: S on the first line, then an id a line, each inserted as its line ends.
 ghost use Prim.Native.Nat.{_<_};
-use inserts::insert;
 use document::answer::Outcome;
+use inserts::insert;
 use lines::Line;
 use lines::Said;
 

@@ -2,11 +2,11 @@
 mod input;
 mod output;
 
-use document::plan::Planning;
 use cuts::planning;
-use input::Input;
 use document::answer::Outcome;
-use layout::setup;
+use document::plan::Planning;
+use idset::setup;
+use input::Input;
 use ranked::form;
 
 // Ranks the set, cuts it into partitions of at most s members, and tells the outcome.

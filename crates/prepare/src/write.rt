@@ -13,10 +13,10 @@ ghost use Rattle.layout.specs.declared.place.Place.the-variants.{Absent, Sparse
 ghost use Rattle.layout.specs.Writes.{putPart, putWord, putPageOwner};
 ghost use Rattle.calls.specs.Prepare.{work, densed, densedWord, densedTo, overNeeded};
 ghost use Rattle.prepare.specs.Ready.{Sound, Fillable, Turnable};
+use document::sizes::Sizes;
 use layout::find;
 use layout::find::Word;
 use layout::head;
-use document::sizes::Sizes;
 use layout::owners;
 use layout::place;
 use layout::place::Place;

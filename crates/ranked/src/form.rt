@@ -9,8 +9,8 @@ use crate::mode;
 use crate::mode::Form;
 use crate::prefixes;
 use document::answer::Outcome;
-use layout::head;
 use document::sizes::Sizes;
+use layout::head;
 use layout::setup;
 
 // Counts every block, then every entry.

@@ -2,10 +2,10 @@
 use crate::memory;
 use crate::say;
 use cuts::interval;
+use cuts::planning;
 use document::plan::Plan;
 use document::plan::Planning;
 use document::plan::Spanned;
-use cuts::planning;
 use exports::change;
 use exports::read;
 use lines::Said;

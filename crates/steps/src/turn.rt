@@ -7,8 +7,8 @@ ghost use Rattle.layout.specs.Sizes.{overCount};
 ghost use Rattle.layout.specs.Places.{encoded};
 ghost use Rattle.layout.specs.declared.place.Place.the-variants.{Dense};
 ghost use Rattle.layout.specs.Writes.{putWord, putRowOwner, putPageOwner, putRow};
-use layout::head;
 use document::sizes::Sizes;
+use layout::head;
 use layout::place;
 use layout::write;
 
