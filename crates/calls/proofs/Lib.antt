@@ -22,3 +22,4 @@ pub mod Sofar
 pub mod Preparing
 pub mod PreparedFree
 pub mod PrepareSpares
+pub mod InsertSpares

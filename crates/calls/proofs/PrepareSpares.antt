@@ -32,11 +32,11 @@ use Rattle.layout_laws.proofs.Sizes.{page-length}
 use Rattle.layout_laws.proofs.Entries.{Ordered, walked-ordered, chunk-direct}
 use Rattle.layout_laws.proofs.Owners.{row-of}
 use Rattle.layout_laws.proofs.Crowds.{above, above-over, entries-missed}
-use Rattle.layout_laws.proofs.Spares.{EntryRoom, room-ordered, row-in, page-in, spare-same, spare-then, spare-if, spare-room}
+use Rattle.layout_laws.proofs.Spares.{EntryRoom, room-ordered, row-slot, page-slot, spare-same, spare-then, spare-if, spare-room}
 use Rattle.steps.specs.Steps.{paged}
 use Rattle.steps.proofs.Table.{Wrote}
 use Rattle.steps.proofs.Orders.{wrote-ordered, wrote-place, wrote-place-off, wrote-count, paged-wrote}
-use Rattle.steps.proofs.Spares.{LeftIn, paged-spare}
+use Rattle.steps.proofs.Spares.{LeftSlot, paged-spare}
 use Rattle.calls.specs.Prepare.{lowestPage, intoPage, densed, densedTo, overNeeded, pagesNeeded, prepareTo, prepareId, prepareBy}
 
 -- memory y on the way from x to chunks 0 to c dense
@@ -84,10 +84,10 @@ module _ (h : Sizes) (x : Mem) (room : RoomIn h x) (o : Ordered h (x .table)) (c
     entry : EntryRoom h (y .table) n
     entry = room-ordered h (y .table) (s .ordered) (s .fits) n free
 
-    left-in : (q : Place) → placeOf h (y .table) n ≡ q → LeftIn h y q
-    left-in Absent e = tt
-    left-in (Sparse r l) e = row-in h y room-here r (s .rows n r l e)
-    left-in (Dense p) e = tt
+    left-slot : (q : Place) → placeOf h (y .table) n ≡ q → LeftSlot h y q
+    left-slot Absent e = tt
+    left-slot (Sparse r l) e = row-slot h y room-here r (s .rows n r l e)
+    left-slot (Dense p) e = tt
 
     paged-tidy : (q : Place) → placeOf h (y .table) n ≡ q → (p : ℕ) → p < h .p → (page : List ℕ) → length page ≡ wide h → Tidy h x c (paged h y n q p page)
     unfolding above
@@ -97,7 +97,7 @@ module _ (h : Sizes) (x : Mem) (room : RoomIn h x) (o : Ordered h (x .table)) (c
           fits = wrote .fits;
           rows = λ i r l e. row i r l e (same-or i n);
           ahead = wrote-count h (y .table) (z .table) n w (s .ordered) wrote (λ (k : ℕ). not (ltb k (c + 1))) (ap not (lt-ltb n (c + 1) (omega arith))) ∙ s .ahead;
-          spare = spare-then (s .spare) (paged-spare h y n entry q p page (left-in q is) (page-in h y room-here p there) long);
+          spare = spare-then (s .spare) (paged-spare h y n entry q p page (left-slot q is) (page-slot h y room-here p there) long);
         }
       where
         z : Mem

@@ -196,18 +196,18 @@ module _ (t : List ℕ) (c w : ℕ) (fits : overCount t ≤ headerAt t .v) (some
 
 -- ---- rows and pages
 
-abbrev pub RowIn : Sizes → Mem → ℕ → Type 0
-RowIn h x r = SlotIn (h .r) (h .m) (length (x .rows)) r
+abbrev pub RowSlot : Sizes → Mem → ℕ → Type 0
+RowSlot h x r = SlotIn (h .r) (h .m) (length (x .rows)) r
 
-abbrev pub PageIn : Sizes → Mem → ℕ → Type 0
-PageIn h x p = SlotIn (h .p) (wide h) (length (x .pages)) p
+abbrev pub PageSlot : Sizes → Mem → ℕ → Type 0
+PageSlot h x p = SlotIn (h .p) (wide h) (length (x .pages)) p
 
 module _ (h : Sizes) (x : Mem) where
-  pub row-in : RoomIn h x → (r : ℕ) → r < h .r → RowIn h x r
-  row-in room r l = slot-in (h .r) (h .m) (length (x .rows)) r (room .in-rows) l
+  pub row-slot : RoomIn h x → (r : ℕ) → r < h .r → RowSlot h x r
+  row-slot room r l = slot-in (h .r) (h .m) (length (x .rows)) r (room .in-rows) l
 
-  pub page-in : RoomIn h x → (p : ℕ) → p < h .p → PageIn h x p
-  page-in room p l = slot-in (h .p) (wide h) (length (x .pages)) p (room .in-pages) l
+  pub page-slot : RoomIn h x → (p : ℕ) → p < h .p → PageSlot h x p
+  page-slot room p l = slot-in (h .p) (wide h) (length (x .pages)) p (room .in-pages) l
 
 -- ---- memory
 

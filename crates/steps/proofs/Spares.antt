@@ -15,7 +15,7 @@ use Rattle.document.specs.declared.sizes.Sizes.{Sizes}
 use Rattle.layout.specs.declared.place.Place.{Place}
 use Rattle.layout.specs.declared.place.Place.the-variants.{Absent, Sparse, Dense}
 use Rattle.layout_laws.proofs.Spares as spares
-use Rattle.layout_laws.proofs.Spares.{EntryRoom, RowIn, PageIn, beyond-same, beyond-then, slot-beyond, row-owner-beyond, page-owner-beyond, put-word-beyond}
+use Rattle.layout_laws.proofs.Spares.{EntryRoom, RowSlot, PageSlot, beyond-same, beyond-then, slot-beyond, row-owner-beyond, page-owner-beyond, put-word-beyond}
 use Rattle.steps.specs.Effects.{EntryFor}
 use Rattle.steps.specs.Steps.{rowed, leftOwner, leftRow, paged}
 
@@ -28,13 +28,13 @@ room-for h t c f = go (ltb c (h .d)) refl
     go false e = spares.left (f (ltb-false c (h .d) e))
 
 -- a place's row, if it has one, is one of the R
-abbrev pub LeftIn : Sizes → Mem → Place → Type 0
-LeftIn h x Absent = Unit
-LeftIn h x (Sparse r l) = RowIn h x r
-LeftIn h x (Dense p) = Unit
+abbrev pub LeftSlot : Sizes → Mem → Place → Type 0
+LeftSlot h x Absent = Unit
+LeftSlot h x (Sparse r l) = RowSlot h x r
+LeftSlot h x (Dense p) = Unit
 
 module _ (h : Sizes) (x : Mem) (c : ℕ) (entry : EntryRoom h (x .table) c) where
-  pub rowed-spare : (r l : ℕ) (row : List ℕ) → RowIn h x r → length row ≡ h .m → Spare h x (rowed h x c r l row)
+  pub rowed-spare : (r l : ℕ) (row : List ℕ) → RowSlot h x r → length row ≡ h .m → Spare h x (rowed h x c r l row)
   unfolding rowed
   rowed-spare r l row s long =
       record {
@@ -47,17 +47,17 @@ module _ (h : Sizes) (x : Mem) (c : ℕ) (entry : EntryRoom h (x .table) c) wher
       }
 
   -- a row that is left
-  left-row-beyond : (q : Place) → LeftIn h x q → Beyond (h .r * h .m) (x .rows) (leftRow h (x .rows) q)
+  left-row-beyond : (q : Place) → LeftSlot h x q → Beyond (h .r * h .m) (x .rows) (leftRow h (x .rows) q)
   left-row-beyond Absent s = beyond-same
   left-row-beyond (Sparse r l) s = slot-beyond (h .r) (x .rows) r (h .m) (replicate (h .m) 0) s (length-replicate (h .m) 0)
   left-row-beyond (Dense p) s = beyond-same
 
-  left-owner-beyond : (t : List ℕ) (q : Place) → LeftIn h x q → Beyond (tableSize h) t (leftOwner h t q)
+  left-owner-beyond : (t : List ℕ) (q : Place) → LeftSlot h x q → Beyond (tableSize h) t (leftOwner h t q)
   left-owner-beyond t Absent s = beyond-same
   left-owner-beyond t (Sparse r l) s = row-owner-beyond h t r 0 (s .there)
   left-owner-beyond t (Dense p) s = beyond-same
 
-  pub paged-spare : (old : Place) (p : ℕ) (page : List ℕ) → LeftIn h x old → PageIn h x p → length page ≡ wide h → Spare h x (paged h x c old p page)
+  pub paged-spare : (old : Place) (p : ℕ) (page : List ℕ) → LeftSlot h x old → PageSlot h x p → length page ≡ wide h → Spare h x (paged h x c old p page)
   unfolding paged
   paged-spare old p page left s long =
       let w = encoded (Dense p) in
