@@ -1,7 +1,6 @@
 -- Inserts write nothing past the sizes where the chunk's slot and entry are within them, and so on memory that passes the walk. Assumes nothing.
 use mathlib.Core.Path.{_≡_, refl, sym, ap, subst, _∙_}
 use mathlib.Core.Logic.{_≢_}
-use mathlib.Core.List.{List}
 use mathlib.Core.Bool.{Bool, true, false, cond, _&&_}
 use Prim.Native.Nat.{ℕ, _+_, _*_, _≤_, _<_}
 use native.Mathlib.Omega.{arith}
@@ -121,10 +120,18 @@ module _ (x : Mem) (c o : ℕ) where
 
 -- ---- the plan for a chunk whose place is within the sizes
 
-abbrev pub PlaceIn : Sizes → Place → Type 0
-PlaceIn h Absent = Unit
-PlaceIn h (Sparse r l) = r < h .r
-PlaceIn h (Dense p) = p < h .p
+pub record RowWithin (x : Mem) (c r : ℕ) : Type 0 where
+  pub there : r < head x .r
+  pub fits : head x .d ≤ c → overCount (x .table) ≤ head x .v
+
+abbrev pub PlaceWithin : Mem → ℕ → Place → Type 0
+PlaceWithin x c Absent = Unit
+PlaceWithin x c (Sparse r l) = RowWithin x c r
+PlaceWithin x c (Dense p) = p < head x .p
+
+-- every place that an insert goes on with is within the sizes
+abbrev pub Placed : Mem → Type 0
+Placed x = (c w : ℕ) → wordIn (x .table) c ≡ word.Is w → inside x (decoded w) ≡ true → PlaceWithin x c (decoded w)
 
 -- a plan that is kept to where a test holds
 within-if : (x : Mem) (c n : ℕ) (b : Bool) (q : Plan) → (b ≡ true → Within x c q) → Within x c (cond b q (Refuse n))
@@ -153,7 +160,8 @@ module _ (x : Mem) (c : ℕ) where
       within-if x c rows-full (ltb (freeRow x) (head x .r)) (Begin (freeRow x))
       (λ e. record { row = row-slot (head x) x (k .room) (freeRow x) (ltb-true (freeRow x) (head x .r) e); entry = entry; some = k .sizes .m-low })
 
-  entry-within : HeadIs (head x) x → (b : Bool) → (leb (head x .d) c && leb (head x .v) (overCount (x .table))) ≡ b → Within x c (cond b (Refuse overflow-full) begin)
+  entry-within : HeadIs (head x) x → (b : Bool) → (leb (head x .d) c && leb (head x .v) (overCount (x .table))) ≡ b
+      → Within x c (cond b (Refuse overflow-full) begin)
   entry-within k true e = tt
   entry-within k false e = begin-within k (room-for (head x) (x .table) c (not-full e))
 
@@ -175,16 +183,11 @@ module _ (x : Mem) (c : ℕ) where
       record {
         row = row-slot (head x) x (k .room) r (ltb-true r (head x .r) (g .1));
         page = page-slot (head x) x (k .room) p (ltb-true p (head x .p) f);
-        entry = room-known (x .table) c w (k .over-fits) some is;
+        entry = room-known (x .table) c w (λ l. k .over-fits) some is;
       }))
 
--- every place that a word names is within the sizes, and so are the overflow entries
-pub record Placed (x : Mem) : Type 0 where
-  pub fits : overCount (x .table) ≤ head x .v
-  pub slots : (c w : ℕ) → wordIn (x .table) c ≡ word.Is w → PlaceIn (head x) (decoded w)
-
 module _ (x : Mem) (d : Placed x) (c o : ℕ) where
-  row-within : (w r l : ℕ) → wordIn (x .table) c ≡ word.Is w → decoded w ≡ Sparse r l → r < head x .r → inside x (Sparse r l) ≡ true
+  row-within : (w r l : ℕ) → wordIn (x .table) c ≡ word.Is w → decoded w ≡ Sparse r l → RowWithin x c r → inside x (Sparse r l) ≡ true
       → (s : slot.Place) → spotIn (rowPart (head x) (x .rows) r) l o ≡ s → Within x c (intoRow x r l s)
   row-within w r l is e there good (Found i) q = tt
   row-within w r l is e there good (Free k) q = go (ltb l (head x .m)) refl
@@ -192,8 +195,8 @@ module _ (x : Mem) (d : Placed x) (c o : ℕ) where
       go : (b : Bool) → ltb l (head x .m) ≡ b → Within x c (cond b (Enter r l k) (turnDense x r l))
       go true f =
           record {
-            row = record { there = there; inside = row-in x r l good .fits };
-            entry = room-known (x .table) c w (d .fits) (some-word w r l e) is;
+            row = record { there = there .there; inside = row-in x r l good .fits };
+            entry = room-known (x .table) c w (there .fits) (some-word w r l e) is;
             place = spot-free-le (rowPart (head x) (x .rows) r) l o k q;
             short = ltb-true l (head x .m) f;
           }
@@ -206,12 +209,12 @@ module _ (x : Mem) (d : Placed x) (c o : ℕ) where
       go true = tt
       go false = record { there = there; inside = page-in x p good .fits }
 
-  place-within : (w : ℕ) → wordIn (x .table) c ≡ word.Is w → (q : Place) → decoded w ≡ q → PlaceIn (head x) q → inside x q ≡ true → Within x c (intoPlace x c o q)
+  place-within : (w : ℕ) → wordIn (x .table) c ≡ word.Is w → (q : Place) → decoded w ≡ q → PlaceWithin x c q → inside x q ≡ true → Within x c (intoPlace x c o q)
   place-within w is Absent e there good = start-within x c
   place-within w is (Sparse r l) e there good = row-within w r l is e there good (spotIn (rowPart (head x) (x .rows) r) l o) refl
   place-within w is (Dense p) e there good = page-within p there good
 
-  dense-within : (q : Place) → PlaceIn (head x) q → inside x q ≡ true → Within x c (intoDense x o q)
+  dense-within : (q : Place) → PlaceWithin x c q → inside x q ≡ true → Within x c (intoDense x o q)
   dense-within Absent there good = tt
   dense-within (Sparse r l) there good = tt
   dense-within (Dense p) there good = page-within p there good
@@ -223,11 +226,11 @@ module _ (x : Mem) (d : Placed x) (c o : ℕ) where
 
   pub insert-within : Within x c (insertPlan x c o)
   unfolding insertPlan
-  insert-within = word-within (intoPlace x c o) (λ w e good. place-within w e (decoded w) refl (d .slots c w e) good) (wordIn (x .table) c) refl
+  insert-within = word-within (intoPlace x c o) (λ w e good. place-within w e (decoded w) refl (d c w e good) good) (wordIn (x .table) c) refl
 
   pub prepared-within : Within x c (preparedPlan x c o)
   unfolding preparedPlan
-  prepared-within = word-within (intoDense x o) (λ w e good. dense-within (decoded w) (d .slots c w e) good) (wordIn (x .table) c) refl
+  prepared-within = word-within (intoDense x o) (λ w e good. dense-within (decoded w) (d c w e good) good) (wordIn (x .table) c) refl
 
 -- ---- the calls
 
@@ -260,19 +263,15 @@ module _ (x : Mem) (d : Placed x) where
 
 -- ---- memory that passes the walk
 
-owned-in : (h : Sizes) (t : List ℕ) (c : ℕ) (q : Place) → Owned h t c q → PlaceIn h q
-owned-in h t c Absent o = tt
-owned-in h t c (Sparse r l) o = o .there
-owned-in h t c (Dense p) o = o .there
+owned-within : {x : Mem} → Walked x (head x) → (c : ℕ) (q : Place) → Owned (head x) (x .table) c q → PlaceWithin x c q
+owned-within w c Absent o = tt
+owned-within w c (Sparse r l) o = record { there = o .there; fits = λ l. w .over-fits }
+owned-within w c (Dense p) o = o .there
 
 same-word : (u w : ℕ) → word.Is u ≡ word.Is w → u ≡ w
 same-word u w e = cc
 
 pub walked-placed : {x : Mem} → Walked x (head x) → Placed x
-walked-placed {x} w =
-    record {
-      fits = w .over-fits;
-      slots = λ c u e.
-          subst (λ (v : ℕ). PlaceIn (head x) (decoded v)) (same-word (wordOf (head x) (x .table) c) u (sym (word-in-is x w c) ∙ e))
-          (owned-in (head x) (x .table) c (placeOf (head x) (x .table) c) (owned-of w c));
-    }
+walked-placed {x} w c u e good =
+    subst (λ (v : ℕ). PlaceWithin x c (decoded v)) (same-word (wordOf (head x) (x .table) c) u (sym (word-in-is x w c) ∙ e))
+    (owned-within w c (placeOf (head x) (x .table) c) (owned-of w c))

@@ -111,7 +111,8 @@ module _ (h : Sizes) (x : Mem) (room : RoomIn h x) (o : Ordered h (x .table)) (c
 
         row : (i r l : ℕ) → placeOf h (z .table) i ≡ Sparse r l → (i ≡ n) ⊎ (i ≢ n) → r < h .r
         row i r l e (inl k) =
-            let a : placeOf h (z .table) i ≡ Dense p = ap (placeOf h (z .table)) k ∙ wrote-place h (y .table) (z .table) n w (s .ordered) wrote ∙ decoded-encoded-dense p in
+            let b = wrote-place h (y .table) (z .table) n w (s .ordered) wrote ∙ decoded-encoded-dense p in
+            let a : placeOf h (z .table) i ≡ Dense p = ap (placeOf h (z .table)) k ∙ b in
             absurd (let v : _≡_ {A = ℕ} 0 1 = cc in omega arith)
         row i r l e (inr d) = s .rows i r l (sym (wrote-place-off h (y .table) (z .table) n w (s .ordered) wrote i d) ∙ e)
 

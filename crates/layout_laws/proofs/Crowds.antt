@@ -75,7 +75,8 @@ module _ (h : Sizes) (t : List ℕ) (o : Ordered h t) where
   pub above-over : (N : ℕ) → h .d ≤ N → above h t N ≡ overCount t - overPlace t (16 + 2 * h .d) (overCount t) N
   unfolding entryFrom
   above-over N l =
-      let e : entryFrom h t N ≡ h .d + overPlace t (16 + 2 * h .d) (overCount t) N = ap (λ (b : Bool). cond b N (h .d + overPlace t (16 + 2 * h .d) (overCount t) N)) (le-ltb N (h .d) l) in
+      let k = overPlace t (16 + 2 * h .d) (overCount t) N in
+      let e : entryFrom h t N ≡ h .d + k = ap (λ (b : Bool). cond b N (h .d + k)) (le-ltb N (h .d) l) in
       let f = from-above N in
       omega arith
 

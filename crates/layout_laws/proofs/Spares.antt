@@ -140,7 +140,8 @@ module _ (h : Sizes) (t : List ℕ) (c : ℕ) where
       over (own o) ge = over-own h t c w (sought h t c) (o .there) (o .is) (o .inside)
 
 -- where ids rise, a chunk with an entry has room, and one without takes what is left of the V
-module _ (h : Sizes) (t : List ℕ) (o : Ordered h t) (fits : overCount t ≤ h .v) (c : ℕ) (free : ((e : ℕ) → e < entries h t → chunkAt h t e ≢ c) → overCount t < h .v) where
+module _ (h : Sizes) (t : List ℕ) (o : Ordered h t) (fits : overCount t ≤ h .v) (c : ℕ)
+    (free : ((e : ℕ) → e < entries h t → chunkAt h t e ≢ c) → overCount t < h .v) where
   abbrev key : ℕ → ℕ
   key = λ (j : ℕ). getD t (overAt h j) 0
 
@@ -168,17 +169,18 @@ module _ (h : Sizes) (t : List ℕ) (o : Ordered h t) (fits : overCount t ≤ h 
       go false e = over (ltb-false c (h .d) e) (ltb (sought h t c) (overCount t)) refl (eqb (key (sought h t c)) c) refl
 
 -- a chunk whose word is found, and not 0, has an entry
-module _ (t : List ℕ) (c w : ℕ) (fits : overCount t ≤ headerAt t .v) (some : w ≢ 0) where
+module _ (t : List ℕ) (c w : ℕ) (fits : headerAt t .d ≤ c → overCount t ≤ headerAt t .v) (some : w ≢ 0) where
   abbrev at : ℕ
   at = sought (headerAt t) t c
 
-  known-over : (a : Bool) → ltb at (overCount t) ≡ a → (b : Bool) → eqb (getD t (overAt (headerAt t) at) 0) c ≡ b
+  known-over : headerAt t .d ≤ c → (a : Bool) → ltb at (overCount t) ≡ a → (b : Bool) → eqb (getD t (overAt (headerAt t) at) 0) c ≡ b
       → cond (a && b) (getD t (overAt (headerAt t) at + 1) 0) 0 ≡ w → EntryRoom (headerAt t) t c
-  known-over true p true q e =
+  known-over ge true p true q e =
       let l = ltb-true at (overCount t) p in
+      let f = fits ge in
       own (record { there = l; is = eqb-true (getD t (overAt (headerAt t) at) 0) c q; inside = omega arith })
-  known-over true p false q e = absurd (some (sym e))
-  known-over false p b q e = absurd (some (sym e))
+  known-over ge true p false q e = absurd (some (sym e))
+  known-over ge false p b q e = absurd (some (sym e))
 
   known-in : (a : Bool) (u : ℕ) → cond a (word.Is u) word.Bad ≡ word.Is w → u ≡ w
   known-in true u e = cc
@@ -191,7 +193,7 @@ module _ (t : List ℕ) (c w : ℕ) (fits : overCount t ≤ headerAt t .v) (some
       go : (b : Bool) → ltb c (headerAt t .d) ≡ b → cond b (directWord t c) (overflowWord t (headerAt t .d) c) ≡ word.Is w → EntryRoom (headerAt t) t c
       go true q e = direct (ltb-true c (headerAt t .d) q)
       go false q e =
-          known-over (ltb at (overCount t)) refl (eqb (getD t (overAt (headerAt t) at) 0) c) refl
+          known-over (ltb-false c (headerAt t .d) q) (ltb at (overCount t)) refl (eqb (getD t (overAt (headerAt t) at) 0) c) refl
           (known-in (entriesIn t (headerAt t .d)) (overWord t (16 + 2 * headerAt t .d) (overCount t) c at) e)
 
 -- ---- rows and pages
