@@ -24,14 +24,14 @@ use Rattle.steps.specs.Steps.{rowed}
 use Rattle.steps.specs.Effects.{EntryFor, RowFor, Becomes}
 use Rattle.steps.proofs.Rowed.{rowed-becomes}
 use Rattle.document.specs.declared.answer.Truth.the-variants.{Is}
-use Rattle.calls.specs.Insert.{freeRow, planBegin}
+use Rattle.calls.specs.Insert.{freeRow, startChunk}
 use Rattle.document.specs.Insert.{chunkSize, grown, newAnswer}
 use Rattle.document.specs.Room.{overflows, sparses, denses, verdict}
 use Rattle.calls.specs.declared.plan.Plan.the-variants.{Refuse, Begin}
 use Rattle.calls.proofs.FirstFree.{first-free, found-less, none-full}
 use Rattle.calls.proofs.Verdicts.{verdict-six, verdict-seven, verdict-room, overflows-is, sparses-is, denses-fit, overflows-fit, Needs}
 use Rattle.calls.proofs.RowEdits.{length-entered, member-entered, listed-entered, listed-free, first-place}
-use Rattle.calls.proofs.Plans.{plan-begin}
+use Rattle.calls.proofs.Plans.{start-chunk}
 use Rattle.calls.proofs.Grown.{refuses, grows}
 use Rattle.calls.proofs.Wanted.{chunk, offset, placed, after, Good, Into, offset-in, open-at, holds-of, kind-of, wanted-new, grown-needs}
 
@@ -136,5 +136,5 @@ module _ {x : Mem} {n : ℕ} (i : Into x n) (e : placed x n ≡ Absent) where
       let u : overflows (head x) (after x n) + 0 ≡ overflows (head x) (kinds x) + 0 = d .over false p in
       seven (omega arith) (λ m. absurd (omega arith)) (ltb (freeRow x) (head x .r)) refl
 
-  pub absent-good : Good x n (planBegin x (chunk x n) (freeRow x))
-  absent-good = subst (Good x n) (sym (plan-begin w (chunk x n) (freeRow x))) (six (leb (head x .d) (chunk x n)) refl (leb (head x .v) (overCount (x .table))) refl)
+  pub absent-good : Good x n (startChunk x (chunk x n))
+  absent-good = subst (Good x n) (sym (start-chunk w (chunk x n))) (six (leb (head x .d) (chunk x n)) refl (leb (head x .v) (overCount (x .table))) refl)

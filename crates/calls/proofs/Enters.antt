@@ -2,7 +2,8 @@
 use mathlib.Core.Path.{_≡_, sym, ap, subst, _∙_}
 use mathlib.Core.List.{List}
 use mathlib.Core.Bool.{true, false, _||_}
-use Prim.Native.Nat.{ℕ, suc, _+_, _*_, _<_}
+use Prim.Native.Nat.{ℕ, suc, _+_, _<_}
+use native.Mathlib.Numerals.{add-one}
 use native.Mathlib.Omega.{arith}
 use lib.IntN.{pos}
 use lib.ListN.{getD}
@@ -13,7 +14,6 @@ use Rattle.sparse.specs.Edit.{insertedAt}
 use Rattle.layout.specs.Mem.{Mem, mem}
 use Rattle.layout.specs.Sizes.{rowOwnersAt, head}
 use Rattle.layout.specs.Places.{encoded, rowPart}
-use Rattle.layout.specs.Entries.{wordOf}
 use Rattle.document.specs.State.{sparse}
 use Rattle.layout.specs.Meaning.{offsets, stateOf}
 use Rattle.layout.specs.Follows.{Follows}
@@ -26,7 +26,7 @@ use Rattle.steps.specs.Effects.{RowFor, Becomes}
 use Rattle.steps.proofs.Words.{put-word}
 use Rattle.steps.proofs.Rowed.{rowed-becomes}
 use Rattle.document.specs.declared.answer.Truth.the-variants.{Is}
-use Rattle.calls.specs.Insert.{actBy}
+use Rattle.calls.specs.Insert.{entered}
 use Rattle.document.specs.Insert.{newAnswer}
 use Rattle.calls.proofs.Outcomes.{Inserts}
 use Rattle.calls.specs.declared.plan.Plan.the-variants.{Enter}
@@ -49,9 +49,6 @@ module _ {x : Mem} {n : ℕ} (i : Into x n) (r l : ℕ) (e : placed x n ≡ Spar
   abbrev row′ : List ℕ
   row′ = insertedAt row l place (offset x n)
 
-  abbrev word : ℕ
-  word = wordOf (head x) (x .table) (chunk x n)
-
   fuller : Becomes x (rowed (head x) x (chunk x n) r (suc l) row′) (chunk x n) (Sparse r (suc l)) (member (rowOf row′) (suc l))
   fuller =
       rowed-becomes x (chunk x n) r (suc l) row′
@@ -73,16 +70,14 @@ module _ {x : Mem} {n : ℕ} (i : Into x n) (r l : ℕ) (e : placed x n ≡ Spar
       .owners (rowOwnersAt (head x) + r) (omega arith)
       ∙ own-row i r l e .owner
 
-  entered-is : rowed (head x) x (chunk x n) r (suc l) row′ ≡ actBy x (chunk x n) (offset x n) (Enter (r * head x .m) (head x .m) l place word)
+  entered-is : rowed (head x) x (chunk x n) r (suc l) row′ ≡ entered x (chunk x n) (offset x n) r l place
   unfolding rowed
   entered-is =
-      let a = own-word i r l e in
-      let s : encoded (Sparse r (suc l)) ≡ word + 1 = omega arith in
       ap (mem (x .pages) (putRow (head x) (x .rows) r row′) (x .blocks))
       (set-same (putWord (head x) (x .table) (chunk x n) (encoded (Sparse r (suc l)))) (rowOwnersAt (head x) + r) (chunk x n + 1) owner-kept
-      ∙ ap (putWord (head x) (x .table) (chunk x n)) s)
+      ∙ ap (λ (k : ℕ). putWord (head x) (x .table) (chunk x n) (encoded (Sparse r k))) (sym (add-one l)))
 
-  pub enter-good : Good x n (Enter (r * head x .m) (head x .m) l place word)
+  pub enter-good : Good x n (Enter r l place)
   enter-good =
       subst (Inserts x (pos n) (newAnswer (stateOf x) (pos n)) (Is true)) entered-is
       (grows n (Sparse r (suc l)) (member (rowOf row′) (suc l)) fuller

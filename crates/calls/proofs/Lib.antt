@@ -6,6 +6,7 @@ pub mod FirstFree
 pub mod Verdicts
 pub mod RowEdits
 pub mod PageEdits
+pub mod Places
 pub mod Plans
 pub mod Grown
 pub mod Wanted
@@ -15,7 +16,10 @@ pub mod Rowings
 pub mod Enters
 pub mod Turns
 pub mod Inserting
-pub mod PageOwners
+pub mod LowestFree
 pub mod Needed
 pub mod Sofar
 pub mod Preparing
+pub mod PreparedFree
+pub mod PrepareSpares
+pub mod InsertSpares

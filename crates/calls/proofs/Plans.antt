@@ -9,28 +9,29 @@ use lib.ListN.{getD, set}
 use lib.Seq.{set-getD}
 use lib.Dec.{leb, ltb, eqb}
 use borrow.Author.Tests.{ltb-true, ltb-false, eqb-false, lt-ltb, le-leb}
-use Rattle.numbers.specs.declared.Split.{Split}
-use Rattle.numbers.specs.declared.Split.the-variants as split
 use Rattle.layout.specs.Mem.{Mem}
 use Rattle.layout.specs.Sizes.{directAt, overAt, head, modeAt, overCount}
 use Rattle.layout.specs.Places.{decoded}
 use Rattle.layout.specs.Entries.{wordOf, placeOf}
-use Rattle.layout.specs.Short.{overPlace}
+use Rattle.layout.specs.Short.{overPlace, wordIn}
 use Rattle.layout.specs.Meaning.{ranked}
 use Rattle.layout.specs.Follows.{Follows}
 use Rattle.layout.specs.Tests.{headIs}
 use Rattle.layout.proofs.Tests.{head-of}
 use Rattle.document.specs.declared.sizes.Sizes.{Sizes}
+use Rattle.layout.specs.declared.place.Place.{Place}
 use Rattle.layout.specs.declared.place.Place.the-variants.{Absent, Sparse, Dense}
-use Rattle.layout_laws.specs.Chunks
+use Rattle.document.specs.declared.answer.Truth.the-variants.{Refused}
 use Rattle.layout_laws.proofs.Entries.{Ordered, word-direct, word-of-direct}
-use Rattle.layout_laws.proofs.Short.{over-word-is, word-in-is, spot-is}
+use Rattle.layout_laws.proofs.Short.{over-word-is, word-in-is}
 use Rattle.layout_laws.proofs.Walked.{laid-walked}
 use Rattle.layout.specs.Writes.{overPut, putWord}
 use Rattle.calls.specs.Reading.{shiftOk}
-use Rattle.calls.specs.Insert.{planBegin, planTurn, planSpot, planWord, planSplit, planBy, preparedSpot, preparedSplit, preparedPlan}
+use Rattle.calls.specs.Insert.{freeRow, freePage, startChunk, turnDense, intoPlace, intoDense, byWord, insertPlan, preparedPlan, Told, told, ifOpen}
+use Rattle.calls.specs.declared.plan.Plan.{Plan}
 use Rattle.calls.specs.declared.plan.Plan.the-variants.{Refuse, Begin, Turn}
-use Rattle.calls.proofs.Readings.{shift-ok, spot-of}
+use Rattle.calls.proofs.Readings.{shift-ok}
+use Rattle.calls.proofs.Places.{inside-of}
 
 -- ---- a word, by what it says
 
@@ -81,22 +82,34 @@ module _ {x : Mem} (w : Follows x) where
   tested = ap₂ _&&_ (shift-ok x (w .sizes)) (le-leb (modeAt (x .table)) 1 (w .mode))
 
   -- 3 never, 4 of a ranked set
-  pub plan-by : (q : Split) → planBy x q ≡ cond (ranked x) (Refuse 4) (planSplit x q)
-  unfolding planBy
-  plan-by q = ap (λ (b : Bool). cond b (cond (ranked x) (Refuse 4) (planSplit x q)) (Refuse 3)) tested
+  pub if-open : (t : Told) → ifOpen x t ≡ cond (ranked x) (told (Refused 4) x) t
+  if-open t = ap (λ (b : Bool). cond b (cond (ranked x) (told (Refused 4) x) t) (told (Refused 3) x)) tested
 
-  pub prepared-by : (q : Split) → preparedPlan x q ≡ cond (ranked x) (Refuse 4) (preparedSplit x q)
+  -- the chunk's own place
+  by-place : (plan : Place → Plan) (c : ℕ) → byWord x plan (wordIn (x .table) c) ≡ plan (placeOf (head x) (x .table) c)
+  by-place plan c =
+      ap (byWord x plan) (word-in-is x (laid-walked w) c)
+      ∙ ap (λ (b : Bool). cond b (plan (placeOf (head x) (x .table) c)) (Refuse 3)) (inside-of (laid-walked w) c)
+
+  pub plan-at : (c o : ℕ) → insertPlan x c o ≡ intoPlace x c o (placeOf (head x) (x .table) c)
+  unfolding insertPlan
+  plan-at c o = by-place (intoPlace x c o) c
+
+  pub prepared-at : (c o : ℕ) → preparedPlan x c o ≡ intoDense x o (placeOf (head x) (x .table) c)
   unfolding preparedPlan
-  prepared-by q = ap (λ (b : Bool). cond b (cond (ranked x) (Refuse 4) (preparedSplit x q)) (Refuse 3)) tested
+  prepared-at c o = by-place (intoDense x o) c
 
-  pub plan-at : (c o : ℕ) → planSplit x (split.At c o) ≡ planSpot x c o (wordOf (head x) (x .table) c) (Chunks.spotOn (head x) (placeOf (head x) (x .table) c))
-  plan-at c o = ap (planWord x c o) (word-in-is x (laid-walked w) c) ∙ ap (planSpot x c o (wordOf (head x) (x .table) c)) (spot-is (laid-walked w) c)
+  -- the header is as the layout says
+  pub start-chunk : (c : ℕ)
+      → startChunk x c ≡ cond (leb (head x .d) c && leb (head x .v) (overCount (x .table))) (Refuse 6) (cond (ltb (freeRow x) (head x .r)) (Begin (freeRow x)) (Refuse 7))
+  start-chunk c =
+      ap
+      (λ (b : Bool).
+      cond b
+      (cond (leb (head x .d) c && leb (head x .v) (overCount (x .table))) (Refuse 6) (cond (ltb (freeRow x) (head x .r)) (Begin (freeRow x)) (Refuse 7)))
+      (Refuse 3))
+      head-ok
 
-  pub prepared-at : (c o : ℕ) → preparedSplit x (split.At c o) ≡ preparedSpot x o (Chunks.spotOn (head x) (placeOf (head x) (x .table) c))
-  prepared-at c o = ap (preparedSpot x o) (spot-of (laid-walked w) c)
-
-  pub plan-begin : (c r : ℕ) → planBegin x c r ≡ cond (leb (head x .d) c && leb (head x .v) (overCount (x .table))) (Refuse 6) (cond (ltb r (head x .r)) (Begin r) (Refuse 7))
-  plan-begin c r = ap (λ (b : Bool). cond b (cond (leb (head x .d) c && leb (head x .v) (overCount (x .table))) (Refuse 6) (cond (ltb r (head x .r)) (Begin r) (Refuse 7))) (Refuse 3)) head-ok
-
-  pub plan-turn : (r l p : ℕ) → r < head x .r → planTurn x r l p ≡ cond (ltb p (head x .p)) (Turn r l p) (Refuse 8)
-  plan-turn r l p m = ap (λ (b : Bool). cond b (cond (ltb p (head x .p)) (Turn r l p) (Refuse 8)) (Refuse 3)) (ap₂ _&&_ head-ok (lt-ltb r (head x .r) m))
+  pub turn-dense : (r l : ℕ) → r < head x .r → turnDense x r l ≡ cond (ltb (freePage x) (head x .p)) (Turn r l (freePage x)) (Refuse 8)
+  turn-dense r l m =
+      ap (λ (b : Bool). cond b (cond (ltb (freePage x) (head x .p)) (Turn r l (freePage x)) (Refuse 8)) (Refuse 3)) (ap₂ _&&_ head-ok (lt-ltb r (head x .r) m))

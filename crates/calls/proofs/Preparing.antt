@@ -12,7 +12,6 @@ use Rattle.numbers.proofs.Signs.{pos-below}
 use Rattle.layout.specs.Mem.{Mem}
 use Rattle.document.specs.Sizes.{top, lastChunk}
 use Rattle.layout.specs.Sizes.{head}
-use Rattle.layout.specs.Short.{wordIn}
 use Rattle.document.specs.State.{Kind, dense}
 use Rattle.layout.specs.Meaning.{kinds, ranked, stateOf}
 use Rattle.layout.specs.Follows.{Follows}
@@ -22,7 +21,7 @@ use Rattle.layout_laws.proofs.Walked.{follows-walked}
 use Rattle.numbers.proofs.Splits as splits
 use Rattle.document.specs.declared.answer.Truth.the-variants as truth
 use Rattle.document.specs.declared.answer.Outcome.the-variants.{Done, Refused}
-use Rattle.calls.specs.Prepare.{Work, work, densedWord, densedTo, overNeeded, pagesNeeded, prepareId, prepareBy}
+use Rattle.calls.specs.Prepare.{densed, densedTo, overNeeded, pagesNeeded, prepareId, prepareBy}
 use Rattle.document.specs.Insert.{done}
 use Rattle.document.specs.Prepare.{denseMap, prepareAnswer}
 use Rattle.document.specs.Room.{overflows, denses, verdict}
@@ -35,19 +34,13 @@ use Rattle.calls.proofs.Sofar.{Sofar, sofar-none, sofar-more}
 
 module _ {x : Mem} (w : Follows x) (mode : ranked x ≡ false) (c : ℕ) (far : c < lastChunk (head x))
     (over : overflows (head x) (denseMap (stateOf x) c) ≤ head x .v) (pages : denses (head x) (denseMap (stateOf x) c) ≤ head x .p) where
-  sofar : (n : ℕ) → n ≤ c + 1 → Sofar x n (densedTo (head x) (work x 0) n)
+  pub sofar : (n : ℕ) → n ≤ c + 1 → Sofar x n (densedTo (head x) x n)
   unfolding densedTo
   sofar zero l = sofar-none w
-  sofar (suc n) l = go (sofar n (omega arith))
+  sofar (suc n) l = go (densedTo (head x) x n) (sofar n (omega arith))
     where
-      u : Work
-      u = densedTo (head x) (work x 0) n
-
-      go : Sofar x n u → Sofar x (suc n) (densedWord (head x) u n (wordIn (u .mem .table) n))
-      go s = subst (λ (h : Sizes). Sofar x (suc n) (densedWord h u n (wordIn (u .mem .table) n))) (s .sizes) (sofar-more x mode c n (omega arith) far u s over pages)
-
-  pub all-dense : Sofar x (c + 1) (densedTo (head x) (work x 0) (c + 1))
-  all-dense = sofar (c + 1) (omega arith)
+      go : (y : Mem) → Sofar x n y → Sofar x (suc n) (densed (head x) y n)
+      go y s = subst (λ (h : Sizes). Sofar x (suc n) (densed h y n)) (s .sizes) (sofar-more x mode c n (omega arith) far y s over pages)
 
 -- ---- what is said of the call
 
@@ -76,9 +69,9 @@ less-next i c = go (leb i c) refl
     go true e = lt-ltb i (c + 1) (let l = leb-true i c e in omega arith)
     go false e = le-ltb i (c + 1) (let l = leb-false i c e in omega arith)
 
-done-prepare : {x : Mem} (n : ℕ) (u : Work) → Sofar x (n / top (head x) + 1) u → prepareAnswer (stateOf x) (pos n) ≡ Done → Says x (pos n) (did Done (u .mem))
+done-prepare : {x : Mem} (n : ℕ) (y : Mem) → Sofar x (n / top (head x) + 1) y → prepareAnswer (stateOf x) (pos n) ≡ Done → Says x (pos n) (did Done y)
 unfolding denseMap
-done-prepare {x} n u s e = record {
+done-prepare {x} n y s e = record {
   answer = sym e;
   follows = s .follows;
   sizes = s .sizes;
@@ -122,7 +115,7 @@ module _ {x : Mem} (w : Follows x) where
     wanted = ap (λ (t : Bool). cond t (Refused 4) (done (verdict (head x) map (truth.Is true)))) mode
 
     eight : overflows (head x) map ≤ head x .v → (b : Bool) → ltb (head x .p) (pagesNeeded (head x) (x .table) c) ≡ b
-        → Says x (pos n) (cond b (did (Refused 8) x) (did Done (densedTo (head x) (work x 0) (c + 1) .mem)))
+        → Says x (pos n) (cond b (did (Refused 8) x) (did Done (densedTo (head x) x (c + 1))))
     eight ov true q =
         let l = ltb-true (head x .p) (pagesNeeded (head x) (x .table) c) q in
         let i = pages-needed w c far in
@@ -131,10 +124,10 @@ module _ {x : Mem} (w : Follows x) where
         let l = ltb-false (head x .p) (pagesNeeded (head x) (x .table) c) q in
         let i = pages-needed w c far in
         let p : denses (head x) map ≤ head x .p = omega arith in
-        done-prepare n (densedTo (head x) (work x 0) (c + 1)) (all-dense w mode c far ov p) (wanted ∙ ap done (verdict-room (head x) map (truth.Is true) ov (rows-enough w c far) p))
+        done-prepare n (densedTo (head x) x (c + 1)) (sofar w mode c far ov p (c + 1) (omega arith)) (wanted ∙ ap done (verdict-room (head x) map (truth.Is true) ov (rows-enough w c far) p))
 
     six : (b : Bool) → ltb (head x .v) (overNeeded (head x) (x .table) c) ≡ b
-        → Says x (pos n) (cond b (did (Refused 6) x) (cond (ltb (head x .p) (pagesNeeded (head x) (x .table) c)) (did (Refused 8) x) (did Done (densedTo (head x) (work x 0) (c + 1) .mem))))
+        → Says x (pos n) (cond b (did (Refused 6) x) (cond (ltb (head x .p) (pagesNeeded (head x) (x .table) c)) (did (Refused 8) x) (did Done (densedTo (head x) x (c + 1)))))
     six true q =
         let l = ltb-true (head x .v) (overNeeded (head x) (x .table) c) q in
         let i = over-needed w c far in

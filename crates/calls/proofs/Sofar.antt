@@ -1,101 +1,60 @@
 -- Chunks made dense one after the other: what holds after n of them, and one more. Assumes nothing.
 use mathlib.Core.Path.{_≡_, refl, sym, ap, subst, _∙_}
-use mathlib.Core.Logic.{_⊎_, inl, inr, _≢_}
 use mathlib.Core.List.{List}
-use mathlib.Core.Bool.{Bool, true, false, cond, not}
+use mathlib.Core.Bool.{Bool, true, false, cond}
 use Prim.Native.Nat.{ℕ, suc, _+_, _-_, _/_, _%_, _≤_, _<_}
 use native.Mathlib.Omega.{arith}
 use lib.Dec.{ltb, eqb}
 use mir.Val.{boolByte}
 use borrow.Author.Tests.{ltb-true, ltb-false, eqb-true, eqb-false, lt-ltb, le-ltb, le-leb, eq-eqb, ne-eqb}
 use Rattle.sums.specs.Ids.{count}
-use Rattle.sums.proofs.Counts.{count-full}
 use Rattle.dense.specs.Bits.{bit, isSet, withRow}
 use Rattle.dense.proofs.Bits.{zero-clear}
 use Rattle.layout.specs.Mem.{Mem}
 use Rattle.document.specs.Sizes.{top, lastChunk}
 use Rattle.layout.specs.Sizes.{wide, head, modeAt}
-use Rattle.layout.specs.Places.{rowPart, pagePart, pageOwner}
+use Rattle.layout.specs.Places.{hasPage, rowPart, pagePart, pageOwner}
 use Rattle.layout.specs.Entries.{placeOf}
-use Rattle.layout.specs.Short.{wordIn}
 use Rattle.document.specs.State.{Kind, absent, sparse, dense, isPresent, isDense}
 use Rattle.layout.specs.Meaning.{offsets, holds, kindOf, kinds, ranked, stateOf}
 use Rattle.layout.specs.Follows.{Listed, RowListed, Follows}
 use Rattle.document.specs.declared.sizes.Sizes.{Sizes}
 use Rattle.layout.specs.declared.place.Place.{Place}
 use Rattle.layout.specs.declared.place.Place.the-variants.{Absent, Sparse, Dense}
-use Rattle.layout_laws.proofs.Short.{word-in-is}
 use Rattle.layout_laws.proofs.Sizes.{page-length}
-use Rattle.layout_laws.proofs.Walked.{laid-walked}
 use Rattle.layout_laws.proofs.Members.{listed-of}
 use Rattle.steps.specs.Steps.{paged}
 use Rattle.steps.specs.Effects.{EntryFor, PageFor, PagedOk, Becomes}
 use Rattle.steps.proofs.Paged.{paged-becomes}
-use Rattle.layout.specs.declared.find.Word.{Word}
-use Rattle.calls.specs.Insert.{firstFree}
-use Rattle.calls.specs.Prepare.{Work, work, densed, densedWord}
+use Rattle.calls.specs.Prepare.{lowestPage, intoPage, densed}
 use Rattle.document.specs.Prepare.{denseMap}
 use Rattle.document.specs.Room.{overflows, denses}
-use Rattle.calls.proofs.FirstFree.{first-free, taken}
+use Rattle.calls.proofs.FirstFree.{first-free, taken, none-full}
 use Rattle.calls.proofs.Verdicts.{overflows-is, denses-is, Needs, needs}
 use Rattle.calls.proofs.PageEdits.{free-bits, length-filled, set-filled}
-use Rattle.calls.proofs.Wanted.{chunk}
-use Rattle.calls.proofs.PageOwners.{owner-after}
 use Rattle.calls.proofs.Needed.{overflows-le, denses-le, dense-more}
 
--- after n chunks, with pages looked for from `next` on
-pub record Sofar (x : Mem) (n : ℕ) (u : Work) : Type 0 where
-  pub follows : Follows (u .mem)
-  pub sizes : head (u .mem) ≡ head x
-  pub mode : modeAt (u .mem .table) ≡ modeAt (x .table)
-  pub members : (i : ℕ) → holds (u .mem) i ≡ holds x i
-  pub map : (i : ℕ) → kinds (u .mem) i ≡ cond (ltb i n) dense (kinds x i)
-  pub used : (p : ℕ) → p < u .next → pageOwner (head (u .mem)) (u .mem .table) p ≢ 0
+-- memory y after n chunks
+pub record Sofar (x : Mem) (n : ℕ) (y : Mem) : Type 0 where
+  pub follows : Follows y
+  pub sizes : head y ≡ head x
+  pub mode : modeAt (y .table) ≡ modeAt (x .table)
+  pub members : (i : ℕ) → holds y i ≡ holds x i
+  pub map : (i : ℕ) → kinds y i ≡ cond (ltb i n) dense (kinds x i)
 
-pub sofar-none : {x : Mem} → Follows x → Sofar x 0 (work x 0)
+pub sofar-none : {x : Mem} → Follows x → Sofar x 0 x
 sofar-none {x} w = record {
   follows = w;
   sizes = refl;
   mode = refl;
   members = λ i. refl;
   map = λ i. ap (λ (b : Bool). cond b dense (kinds x i)) (sym (le-ltb i 0 (omega arith)));
-  used = λ p l. absurd (omega arith);
 }
-
--- ---- the free page that is found
-
-module _ (f : ℕ → ℕ) (next P : ℕ) (owned : (j : ℕ) → j < next → f j ≢ 0) where
-  abbrev found : ℕ
-  found = firstFree f next (P - next)
-
-  -- every page below it has an owner
-  pub below-found : (j : ℕ) → j < found → f j ≢ 0
-  below-found j l = go (ltb j next) refl
-    where
-      go : (b : Bool) → ltb j next ≡ b → f j ≢ 0
-      go true e = owned j (ltb-true j next e)
-      go false e = first-free f next (P - next) .before j (ltb-false j next e) l
-
-  pub found-inside : count (taken f) P < P → found < P
-  found-inside l = go (ltb found P) refl
-    where
-      go : (b : Bool) → ltb found P ≡ b → found < P
-      go true e = ltb-true found P e
-      go false e =
-          let m = ltb-false found P e in
-          let c = count-full (taken f) P (λ j k. ap not (ne-eqb (f j) 0 (below-found j (omega arith)))) in
-          absurd (omega arith)
-
-  pub found-free : found < P → f found ≡ 0
-  found-free l = first-free f next (P - next) .free (let a = first-free f next (P - next) .low in omega arith)
 
 -- ---- one chunk more
 
-module _ (x : Mem) (mode : ranked x ≡ false) (c n : ℕ) (le : n ≤ c) (far : c < lastChunk (head x)) (u : Work) (s : Sofar x n u)
+module _ (x : Mem) (mode : ranked x ≡ false) (c n : ℕ) (le : n ≤ c) (far : c < lastChunk (head x)) (y : Mem) (s : Sofar x n y)
     (over : overflows (head x) (denseMap (stateOf x) c) ≤ head x .v) (pages : denses (head x) (denseMap (stateOf x) c) ≤ head x .p) where
-  abbrev y : Mem
-  y = u .mem
-
   abbrev w : Follows y
   w = s .follows
 
@@ -103,7 +62,7 @@ module _ (x : Mem) (mode : ranked x ≡ false) (c n : ℕ) (le : n ≤ c) (far :
   owner = pageOwner (head y) (y .table)
 
   abbrev free : ℕ
-  free = firstFree owner (u .next) (head y .p - u .next)
+  free = lowestPage (head y) y
 
   abbrev onward : ℕ → Kind
   onward = λ (i : ℕ). cond (eqb i n) dense (kinds y i)
@@ -120,8 +79,8 @@ module _ (x : Mem) (mode : ranked x ≡ false) (c n : ℕ) (le : n ≤ c) (far :
           same false q = q ∙ sym (le-ltb i (suc n) (let a = ltb-false i n q in let d = eqb-false i n e in omega arith))
 
   -- where chunk n was dense already
-  pub sofar-dense : kinds y n ≡ dense → Sofar x (suc n) u
-  sofar-dense e = record { follows = w; sizes = s .sizes; mode = s .mode; members = s .members; map = λ i. same i (eqb i n) refl ∙ onward-is i; used = s .used }
+  pub sofar-dense : kinds y n ≡ dense → Sofar x (suc n) y
+  sofar-dense e = record { follows = w; sizes = s .sizes; mode = s .mode; members = s .members; map = λ i. same i (eqb i n) refl ∙ onward-is i }
     where
       same : (i : ℕ) (b : Bool) → eqb i n ≡ b → kinds y i ≡ cond (eqb i n) dense (kinds y i)
       same i true q = ap (kinds y) (eqb-true i n q) ∙ e ∙ ap (λ (b : Bool). cond b dense (kinds y i)) (sym q)
@@ -158,7 +117,11 @@ module _ (x : Mem) (mode : ranked x ≡ false) (c n : ℕ) (le : n ≤ c) (far :
       let m : denses (head y) onward + boolByte (isDense a) ≡ denses (head y) (kinds y) + 1 = more a e .pages in
       let i = denses-is w in
       let p = pages-at in
-      found-inside owner (u .next) (head y .p) (s .used) (omega arith)
+      go (ltb free (head y .p)) refl (omega arith)
+    where
+      go : (b : Bool) → ltb free (head y .p) ≡ b → count (taken owner) (head y .p) < head y .p → free < head y .p
+      go true t l = ltb-true free (head y .p) t
+      go false t l = let c = none-full owner (head y .p) (ltb-false free (head y .p) t) in absurd (omega arith)
 
   entry-free : kinds y n ≡ absent → EntryFor (head y) (y .table) n
   entry-free e l =
@@ -167,85 +130,114 @@ module _ (x : Mem) (mode : ranked x ≡ false) (c n : ℕ) (le : n ≤ c) (far :
       let p = over-at in
       omega arith
 
-  -- ---- into the page
+  -- ---- the page that a chunk which is not dense takes
 
   is-open : ranked y ≡ false
   is-open = ap (λ (m : ℕ). eqb m 1) (s .mode) ∙ mode
 
-  module _ (there : free < head y .p) (old : Place) (is : placeOf (head y) (y .table) n ≡ old) (page : List ℕ) (ok : PagedOk y n old free page) (entry : old ≡ Absent → EntryFor (head y) (y .table) n)
-      (same : (o : ℕ) → isSet page o ≡ offsets (head y) y old o) where
-    abbrev z : Mem
-    z = paged (head y) y n old free page
+  page-owner : free < head y .p → owner free ≡ 0
+  page-owner l = first-free owner 0 (head y .p) .free (omega arith)
 
-    b : Becomes y z n (Dense free) (isSet page)
-    b = paged-becomes y n old free page ok
-
-    kept : (i : ℕ) (t : Bool) → eqb (i / top (head y)) n ≡ t → cond t (isSet page (i % top (head y))) (holds y i) ≡ holds y i
-    unfolding holds
-    kept i true e =
-        same (i % top (head y))
-        ∙ ap (λ (p : Place). offsets (head y) y p (i % top (head y))) (sym (ap (placeOf (head y) (y .table)) (eqb-true (i / top (head y)) n e) ∙ is))
-    kept i false e = refl
-
-    owned : (p : ℕ) → p < free + 1 → (t : Bool) → eqb p free ≡ t → (p ≡ free) ⊎ (owner p ≢ 0)
-    owned p l true e = inl (eqb-true p free e)
-    owned p l false e = inr (below-found owner (u .next) (head y .p) (s .used) p (let d = eqb-false p free e in omega arith))
-
-    pub sofar-paged : Sofar x (suc n) (work z (free + 1))
-    sofar-paged = record {
-      follows = b .follows;
-      sizes = b .head-is ∙ s .sizes;
-      mode = b .mode-is ∙ s .mode;
-      members = λ i. b .holds-is i ∙ kept i (eqb (i / top (head y)) n) refl ∙ s .members i;
-      map = λ i. b .kinds-is i ∙ onward-is i;
-      used = λ p l. subst (λ (h : Sizes). pageOwner h (z .table) p ≢ 0) (sym (b .head-is)) (owner-after w n old is entry free there page p (owned p l (eqb p free) refl));
-    }
-
-  -- ---- by the place of chunk n
-
-  kind-at : (p : Place) → placeOf (head y) (y .table) n ≡ p → kinds y n ≡ kindOf p
+  kind-at : (q : Place) → placeOf (head y) (y .table) n ≡ q → kinds y n ≡ kindOf q
   unfolding kinds
-  kind-at p e = ap kindOf e
+  kind-at q e = ap kindOf e
 
   clear : (there : free < head y .p) (o : ℕ) → bit (pagePart (head y) (y .pages) free) o ≡ 0
-  clear there = free-bits (y .pages) free (head y .p) (wide (head y)) there (w .room .in-pages) (w .free-pages free there (found-free owner (u .next) (head y .p) (s .used) there))
+  clear there = free-bits (y .pages) free (head y .p) (wide (head y)) there (w .room .in-pages) (w .free-pages free there (page-owner there))
 
-  at-place : (p : Place) → placeOf (head y) (y .table) n ≡ p → Sofar x (suc n) (densed (head y) u n p)
-  at-place Absent e =
+  -- from the place q
+  pub record Into (q : Place) : Type 0 where
+    pub there : free < head y .p
+    pub page : List ℕ
+    pub ok : PagedOk y n q free page
+    pub same : (o : ℕ) → isSet page o ≡ offsets (head y) y q o
+    pub is : intoPage (head y) y n free q ≡ paged (head y) y n q free page
+
+  pub into : (q : Place) → placeOf (head y) (y .table) n ≡ q → hasPage q ≡ false → Into q
+  into Absent e h =
       let k = kind-at Absent e in
       let there = page-free absent k refl in
       let page = pagePart (head y) (y .pages) free in
-      subst (Sofar x (suc n)) (sym (ap (λ (t : Bool). cond t (work (paged (head y) y n Absent free page) (free + 1)) u) (lt-ltb free (head y .p) there)))
-      (sofar-paged there Absent e page
-      (record {
-        set = record { follows = w; mode = is-open; chunk = inside };
-        old-is = sym e;
+      record {
         there = there;
-        long = page-length (head y) y (w .room) free there;
-        came = PageFor.new-page refl (found-free owner (u .next) (head y .p) (s .used) there) (λ q. entry-free k);
-      })
-      (λ q. entry-free k)
-      (λ o. zero-clear page o (clear there o)))
-  at-place (Sparse r l) e =
+        page = page;
+        ok =
+            record {
+              set = record { follows = w; mode = is-open; chunk = inside };
+              old-is = sym e;
+              there = there;
+              long = page-length (head y) y (w .room) free there;
+              came = PageFor.new-page refl (page-owner there) (λ a. entry-free k);
+            };
+        same = λ o. zero-clear page o (clear there o);
+        is = refl;
+      }
+  into (Sparse r l) e h =
       let k = kind-at (Sparse r l) e in
       let there = page-free sparse k refl in
       let row = rowPart (head y) (y .rows) r in
       let blank = pagePart (head y) (y .pages) free in
-      let page = withRow blank 0 row (top (head y)) l in
       let listed : Listed (head y) row l = subst (RowListed (head y) (y .rows)) e (listed-of w n) in
       let long = page-length (head y) y (w .room) free there in
-      subst (Sofar x (suc n)) (sym (ap (λ (t : Bool). cond t (work (paged (head y) y n (Sparse r l) free page) (free + 1)) u) (lt-ltb free (head y .p) there)))
-      (sofar-paged there (Sparse r l) e page
-      (record {
-        set = record { follows = w; mode = is-open; chunk = inside };
-        old-is = sym e;
+      record {
         there = there;
-        long = length-filled (head y) (w .sizes) blank row l long (clear there) listed;
-        came = PageFor.new-page refl (found-free owner (u .next) (head y .p) (s .used) there) (λ q. absurd (let v : _≡_ {A = ℕ} 0 1 = cc in omega arith));
-      })
-      (λ q. absurd (let v : _≡_ {A = ℕ} 0 1 = cc in omega arith))
-      (set-filled (head y) (w .sizes) blank row l long (clear there) listed))
-  at-place (Dense p) e = sofar-dense (kind-at (Dense p) e)
+        page = withRow blank 0 row (top (head y)) l;
+        ok =
+            record {
+              set = record { follows = w; mode = is-open; chunk = inside };
+              old-is = sym e;
+              there = there;
+              long = length-filled (head y) (w .sizes) blank row l long (clear there) listed;
+              came = PageFor.new-page refl (page-owner there) (λ a. absurd (let v : _≡_ {A = ℕ} 0 1 = cc in omega arith));
+            };
+        same = set-filled (head y) (w .sizes) blank row l long (clear there) listed;
+        is = refl;
+      }
+  into (Dense p) e h = absurd (let v : _≡_ {A = ℕ} 0 1 = cc in omega arith)
 
-  pub sofar-more : Sofar x (suc n) (densedWord (head y) u n (wordIn (y .table) n))
-  sofar-more = subst (λ (v : Word). Sofar x (suc n) (densedWord (head y) u n v)) (sym (word-in-is y (laid-walked w) n)) (at-place (placeOf (head y) (y .table) n) refl)
+  module _ (q : Place) (is : placeOf (head y) (y .table) n ≡ q) (i : Into q) where
+    abbrev z : Mem
+    z = paged (head y) y n q free (i .page)
+
+    pub into-becomes : Becomes y z n (Dense free) (isSet (i .page))
+    into-becomes = paged-becomes y n q free (i .page) (i .ok)
+
+    pub into-is : densed (head y) y n ≡ z
+    into-is =
+        ap (λ (b : Bool). cond b (intoPage (head y) y n free (placeOf (head y) (y .table) n)) y) (lt-ltb free (head y .p) (i .there))
+        ∙ ap (intoPage (head y) y n free) is ∙ i .is
+
+    kept : (j : ℕ) (t : Bool) → eqb (j / top (head y)) n ≡ t → cond t (isSet (i .page) (j % top (head y))) (holds y j) ≡ holds y j
+    unfolding holds
+    kept j true e =
+        i .same (j % top (head y))
+        ∙ ap (λ (p : Place). offsets (head y) y p (j % top (head y))) (sym (ap (placeOf (head y) (y .table)) (eqb-true (j / top (head y)) n e) ∙ is))
+    kept j false e = refl
+
+    sofar-paged : Sofar x (suc n) z
+    sofar-paged =
+        let b = into-becomes in
+        record {
+          follows = b .follows;
+          sizes = b .head-is ∙ s .sizes;
+          mode = b .mode-is ∙ s .mode;
+          members = λ j. b .holds-is j ∙ kept j (eqb (j / top (head y)) n) refl ∙ s .members j;
+          map = λ j. b .kinds-is j ∙ onward-is j;
+        }
+
+  -- ---- by the place of chunk n
+
+  pub stays : (p : ℕ) → placeOf (head y) (y .table) n ≡ Dense p → densed (head y) y n ≡ y
+  stays p e = ap (λ (q : Place). cond (ltb free (head y .p)) (intoPage (head y) y n free q) y) e ∙ either (ltb free (head y .p))
+    where
+      either : (b : Bool) → cond b y y ≡ y
+      either true = refl
+      either false = refl
+
+  at-place : (q : Place) → placeOf (head y) (y .table) n ≡ q → Sofar x (suc n) (densed (head y) y n)
+  at-place Absent e = let i = into Absent e refl in subst (Sofar x (suc n)) (sym (into-is Absent e i)) (sofar-paged Absent e i)
+  at-place (Sparse r l) e = let i = into (Sparse r l) e refl in subst (Sofar x (suc n)) (sym (into-is (Sparse r l) e i)) (sofar-paged (Sparse r l) e i)
+  at-place (Dense p) e = subst (Sofar x (suc n)) (sym (stays p e)) (sofar-dense (kind-at (Dense p) e))
+
+  pub sofar-more : Sofar x (suc n) (densed (head y) y n)
+  sofar-more = at-place (placeOf (head y) (y .table) n) refl

@@ -2,7 +2,7 @@
 use mathlib.Core.Path.{_≡_, refl, sym, ap, subst, _∙_}
 use mathlib.Core.List.{List}
 use mathlib.Core.Bool.{Bool, true, false, cond, _||_, _&&_}
-use Prim.Native.Nat.{ℕ, _+_, _-_, _/_, _≤_, _<_}
+use Prim.Native.Nat.{ℕ, _+_, _≤_, _<_}
 use native.Mathlib.Omega.{arith}
 use lib.IntN.{pos}
 use lib.ListN.{length}
@@ -15,7 +15,6 @@ use Rattle.layout.specs.Mem.{Mem}
 use Rattle.document.specs.Sizes.{top}
 use Rattle.layout.specs.Sizes.{wide, head}
 use Rattle.layout.specs.Places.{rowPart, pagePart, pageOwner}
-use Rattle.layout.specs.Entries.{wordOf}
 use Rattle.document.specs.State.{sparse, dense}
 use Rattle.layout.specs.Meaning.{offsets, kinds, stateOf}
 use Rattle.layout.specs.Follows.{Follows}
@@ -26,17 +25,17 @@ use Rattle.steps.specs.Steps.{paged}
 use Rattle.steps.specs.Effects.{PageFor, Becomes}
 use Rattle.steps.proofs.Paged.{paged-becomes}
 use Rattle.document.specs.declared.answer.Truth.the-variants.{Is}
-use Rattle.calls.specs.Insert.{freePage, planTurn}
+use Rattle.calls.specs.Insert.{freePage, turnDense}
 use Rattle.document.specs.Insert.{newAnswer}
 use Rattle.document.specs.Room.{overflows, sparses, denses, verdict}
 use Rattle.calls.specs.declared.plan.Plan.the-variants.{Refuse, Turn}
 use Rattle.calls.proofs.FirstFree.{first-free, found-less, none-full}
 use Rattle.calls.proofs.Verdicts.{verdict-eight, verdict-room, denses-is, sparses-fit, overflows-fit, Needs}
 use Rattle.calls.proofs.PageEdits.{free-bits, set-turned, length-turned}
-use Rattle.calls.proofs.Plans.{plan-turn}
+use Rattle.calls.proofs.Plans.{turn-dense}
 use Rattle.calls.proofs.Grown.{refuses, grows}
 use Rattle.calls.proofs.Wanted.{chunk, offset, placed, after, Good, Into, offset-in, open-at, holds-of, kind-of, wanted-new, grown-needs}
-use Rattle.calls.proofs.Rowings.{own-row, own-listed, own-word, own-grown, own-kind}
+use Rattle.calls.proofs.Rowings.{own-row, own-listed, own-grown, own-kind}
 
 module _ {x : Mem} {n : ℕ} (i : Into x n) (r l : ℕ) (e : placed x n ≡ Sparse r l) (full : head x .m ≤ l) (new : member (rowOf (rowPart (head x) (x .rows) r)) l (offset x n) ≡ false) where
   abbrev w : Follows x
@@ -112,11 +111,5 @@ module _ {x : Mem} {n : ℕ} (i : Into x n) (r l : ℕ) (e : placed x n ≡ Spar
       let y = page-more in
       refuses x w (pos n) (newAnswer (stateOf x) (pos n)) 8 (wanted ∙ verdict-eight (head x) (after x n) (Is true) over-room row-room (omega arith))
 
-  pub turn-plan : Good x n (planTurn x ((wordOf (head x) (x .table) (chunk x n) - 1) / 2048) l (freePage x))
-  turn-plan =
-      let a = own-word i r l e in
-      let s = own-row i r l e .short in
-      let m = w .sizes .m-high in
-      let q : (wordOf (head x) (x .table) (chunk x n) - 1) / 2048 ≡ r = omega arith in
-      subst (Good x n) (sym (ap (λ (k : ℕ). planTurn x k l (freePage x)) q ∙ plan-turn w r l (freePage x) (own-row i r l e .there)))
-      (eight (ltb (freePage x) (head x .p)) refl)
+  pub turn-plan : Good x n (turnDense x r l)
+  turn-plan = subst (Good x n) (sym (turn-dense w r l (own-row i r l e .there))) (eight (ltb (freePage x) (head x .p)) refl)

@@ -1,5 +1,5 @@
 -- 6, 7 and 8 by counts: what the map of a memory needs, and what it needs with one chunk changed. Assumes nothing.
-use mathlib.Core.Path.{_≡_, refl, sym, ap, ap₂, _∙_}
+use mathlib.Core.Path.{_≡_, sym, ap, ap₂, _∙_}
 use mathlib.Core.Logic.{_≢_}
 use mathlib.Core.Bool.{Bool, true, false, cond, _&&_}
 use Prim.Native.Nat.{ℕ, _+_, _≤_, _<_}
@@ -8,12 +8,12 @@ use lib.Dec.{leb, ltb}
 use mir.Val.{boolByte}
 use borrow.Author.Tests.{lt-ltb, le-ltb}
 use Rattle.sums.specs.Ids.{count}
-use Rattle.sums.proofs.Counts.{count-ext, count-le, count-change}
+use Rattle.sums.proofs.Counts.{count-le, count-change}
 use Rattle.layout.specs.Mem.{Mem}
 use Rattle.document.specs.Sizes.{lastChunk}
 use Rattle.layout.specs.Sizes.{head, overCount}
 use Rattle.layout.specs.Places.{rowOwner, pageOwner}
-use Rattle.document.specs.State.{Kind, absent, sparse, dense, isPresent, isSparse, isDense}
+use Rattle.document.specs.State.{Kind, isPresent, isSparse, isDense}
 use Rattle.layout.specs.Meaning.{kinds}
 use Rattle.layout.specs.Follows.{Follows}
 use Rattle.document.specs.declared.sizes.Sizes.{Sizes}
@@ -58,16 +58,6 @@ module _ (h : Sizes) (k : ℕ → Kind) (a : Truth) where
 
 -- ---- what a memory's map needs
 
-in-row : (k : Kind) → isSparse k ≡ isSparse k
-in-row absent = refl
-in-row sparse = refl
-in-row dense = refl
-
-in-page : (k : Kind) → isDense k ≡ isDense k
-in-page absent = refl
-in-page sparse = refl
-in-page dense = refl
-
 module _ {x : Mem} (w : Follows x) where
   -- the overflow entries in use
   pub overflows-is : overflows (head x) (kinds x) ≡ overCount (x .table)
@@ -77,11 +67,11 @@ module _ {x : Mem} (w : Follows x) where
   -- the rows and pages that have an owner
   pub sparses-is : sparses (head x) (kinds x) ≡ count (taken (rowOwner (head x) (x .table))) (head x .r)
   unfolding sparses
-  sparses-is = count-ext (λ (c : ℕ). isSparse (kinds x c)) (λ (c : ℕ). isSparse (kinds x c)) (lastChunk (head x)) (λ c l. in-row (kinds x c)) ∙ sparse-rows w
+  sparses-is = sparse-rows w
 
   pub denses-is : denses (head x) (kinds x) ≡ count (taken (pageOwner (head x) (x .table))) (head x .p)
   unfolding denses
-  denses-is = count-ext (λ (c : ℕ). isDense (kinds x c)) (λ (c : ℕ). isDense (kinds x c)) (lastChunk (head x)) (λ c l. in-page (kinds x c)) ∙ dense-pages w
+  denses-is = dense-pages w
 
   pub sparses-fit : sparses (head x) (kinds x) ≤ head x .r
   sparses-fit = let e = sparses-is in let l = count-le (taken (rowOwner (head x) (x .table))) (head x .r) in omega arith

@@ -4,7 +4,7 @@ use mathlib.Core.Bool.{Bool, true, false, cond}
 use Prim.Native.Nat.{ℕ, _/_, _%_, _^_, _<_}
 use native.Mathlib.Nat.{mod-lt}
 use native.Mathlib.Omega.{arith}
-use lib.IntN.{pos}
+use lib.IntN.{ℤ, pos}
 use lib.Pow.{pow-pos}
 use lib.Dec.{leb}
 use Rattle.layout.specs.Mem.{Mem}
@@ -17,8 +17,9 @@ use Rattle.layout.specs.Follows.{Follows}
 use Rattle.layout.specs.declared.place.Place.{Place}
 use Rattle.steps.specs.Effects.{Open}
 use Rattle.numbers.proofs.Splits as splits
+use Rattle.document.specs.declared.answer.Truth.{Truth}
 use Rattle.document.specs.declared.answer.Truth.the-variants.{Is, Refused}
-use Rattle.calls.specs.Insert.{actBy, answerOf}
+use Rattle.calls.specs.Insert.{Told, acted}
 use Rattle.document.specs.Insert.{chunkSize, grown, grownMap, newAnswer}
 use Rattle.document.specs.Room.{verdict}
 use Rattle.calls.proofs.Outcomes.{Inserts}
@@ -41,9 +42,13 @@ placed x n = placeOf (head x) (x .table) (chunk x n)
 abbrev pub after : Mem → ℕ → ℕ → Kind
 after x n = grownMap (stateOf x) (chunk x n)
 
+-- what is told is document 01's answer, and the set after it
+abbrev pub Says : Mem → ℤ → Truth → Told → Type 0
+Says x z wanted t = Inserts x z wanted (t .answer) (t .after)
+
 -- a plan that does as document 01 says
 abbrev pub Good : Mem → ℕ → Plan → Type 0
-Good x n q = Inserts x (pos n) (newAnswer (stateOf x) (pos n)) (answerOf q) (actBy x (chunk x n) (offset x n) q)
+Good x n q = Says x (pos n) (newAnswer (stateOf x) (pos n)) (acted x (chunk x n) (offset x n) q)
 
 -- an open set that follows the layout, and an id of 0 or more
 pub record Into (x : Mem) (n : ℕ) : Type 0 where

@@ -1,38 +1,39 @@
--- `set_if_new` on any memory: a plan, and what it does.
-use Prim.Native.Nat.{ℕ, _+_, _-_, _/_}
+-- Inserts on any memory: a plan by rows and pages, and what it does.
+use Prim.Native.Nat.{ℕ, _+_, _*_}
 use mathlib.Core.List.{List}
-use mathlib.Core.Bool.{Bool, true, false, cond, not, _&&_}
+use mathlib.Core.Bool.{Bool, true, false, cond, _&&_}
 use lib.IntN.{ℤ}
-use lib.ListN.{getD, take, drop}
+use lib.ListN.{length, getD}
 use lib.Dec.{leb, ltb, eqb}
 use Rattle.numbers.specs.Ids.{splitOf}
 use Rattle.numbers.specs.declared.Split.{Split}
 use Rattle.numbers.specs.declared.Split.the-variants as split
 use Rattle.sparse.specs.Search.{spotIn}
 use Rattle.sparse.specs.Edit.{insertedAt}
-use Rattle.sparse.specs.declared.Place.{Place}
+use Rattle.sparse.specs.declared.Place as slot
 use Rattle.sparse.specs.declared.Place.the-variants.{Found, Free}
 use Rattle.dense.specs.Bits.{isSet, withBit, withRow}
-use Rattle.layout.specs.Mem.{Mem, mem}
 use Rattle.document.specs.Sizes.{top}
-use Rattle.layout.specs.Sizes.{head, modeAt, overCount}
-use Rattle.layout.specs.Places.{rowPart, pagePart, rowOwner, pageOwner}
+use Rattle.document.specs.Refusals.{not-laid-out, is-ranked, overflow-full, rows-full, pages-full, not-prepared}
+use Rattle.document.specs.declared.answer.Truth.{Truth}
+use Rattle.document.specs.declared.answer.Truth.the-variants.{Is, Refused}
+use Rattle.layout.specs.Mem.{Mem, mem}
+use Rattle.layout.specs.Sizes.{wide, head, modeAt, overCount}
+use Rattle.layout.specs.Places.{decoded, encoded, rowPart, pagePart, rowOwner, pageOwner}
 use Rattle.layout.specs.Short.{wordIn}
 unfoldable pub use Rattle.layout.specs.Free.{firstFree}
 use Rattle.layout.specs.Tests.{headIs}
-use Rattle.document.specs.declared.sizes.Sizes.{Sizes}
-use Rattle.layout.specs.declared.place.Place.the-variants.{Sparse}
-use Rattle.document.specs.declared.answer.Truth.{Truth}
-use Rattle.document.specs.declared.answer.Truth.the-variants as truth
+use Rattle.layout.specs.Writes.{putWord, putRow, putPage}
+use Rattle.layout.specs.declared.place.Place.{Place}
+use Rattle.layout.specs.declared.place.Place.the-variants.{Absent, Sparse, Dense}
 use Rattle.layout.specs.declared.find.Word.{Word}
 use Rattle.layout.specs.declared.find.Word.the-variants as word
-use Rattle.layout.specs.declared.find.Spot.{Spot}
-use Rattle.layout.specs.declared.find.Spot.the-variants.{Nowhere, Row, Page, Bad}
-use Rattle.layout.specs.Writes.{putPart, putWord}
 use Rattle.steps.specs.Steps.{rowed, paged}
-use Rattle.calls.specs.Reading.{shiftOk, spotBy, spotIf}
+use Rattle.calls.specs.Reading.{shiftOk}
 use Rattle.calls.specs.declared.plan.Plan.{Plan}
 use Rattle.calls.specs.declared.plan.Plan.the-variants.{Refuse, Known, Mark, Enter, Begin, Turn}
+
+-- ---- the plan of an insert into an open set
 
 -- the lowest free row and page
 abbrev pub freeRow : Mem → ℕ
@@ -41,68 +42,60 @@ freeRow x = firstFree (rowOwner (head x) (x .table)) 0 (head x .r)
 abbrev pub freePage : Mem → ℕ
 freePage x = firstFree (pageOwner (head x) (x .table)) 0 (head x .p)
 
--- a new sparse chunk: an overflow entry, then a row
-abbrev pub planBegin : Mem → ℕ → ℕ → Plan
-planBegin x c r =
+-- an absent chunk c starts sparse: an overflow entry, then a row
+abbrev pub startChunk : Mem → ℕ → Plan
+startChunk x c =
     cond (headIs (head x) x)
-    (cond (leb (head x .d) c && leb (head x .v) (overCount (x .table))) (Refuse 6)
-    (cond (ltb r (head x .r)) (Begin r) (Refuse 7)))
-    (Refuse 3)
+    (cond (leb (head x .d) c && leb (head x .v) (overCount (x .table))) (Refuse overflow-full)
+    (cond (ltb (freeRow x) (head x .r)) (Begin (freeRow x)) (Refuse rows-full)))
+    (Refuse not-laid-out)
 
--- a full row: a page
-abbrev pub planTurn : Mem → ℕ → ℕ → ℕ → Plan
-planTurn x r l p = cond (headIs (head x) x && ltb r (head x .r)) (cond (ltb p (head x .p)) (Turn r l p) (Refuse 8)) (Refuse 3)
+-- a full row r of l members becomes dense: a page
+abbrev pub turnDense : Mem → ℕ → ℕ → Plan
+turnDense x r l =
+    cond (headIs (head x) x && ltb r (head x .r))
+    (cond (ltb (freePage x) (head x .p)) (Turn r l (freePage x)) (Refuse pages-full))
+    (Refuse not-laid-out)
 
--- into a row of n places with l members that starts at a; w is the chunk's word
-abbrev pub planRow : Mem → ℕ → ℕ → ℕ → ℕ → Place → Plan
-planRow x w a n l (Found i) = Known
-planRow x w a n l (Free k) = cond (ltb l n) (Enter a n l k w) (planTurn x ((w - 1) / 2048) l (freePage x))
+-- row r of l members, searched for the offset: a member is never a promotion
+abbrev pub intoRow : Mem → ℕ → ℕ → slot.Place → Plan
+intoRow x r l (Found i) = Known
+intoRow x r l (Free k) = cond (ltb l (head x .m)) (Enter r l k) (turnDense x r l)
 
-abbrev pub planSpot : Mem → ℕ → ℕ → ℕ → Spot → Plan
-planSpot x c o w Nowhere = planBegin x c (freeRow x)
-planSpot x c o w (Row a n l) = planRow x w a n l (spotIn (take n (drop a (x .rows))) l o)
-planSpot x c o w (Page a n) = cond (isSet (take n (drop a (x .pages))) o) Known (Mark a n)
-planSpot x c o w Bad = Refuse 3
+abbrev pub intoPage : Mem → ℕ → ℕ → Plan
+intoPage x o p = cond (isSet (pagePart (head x) (x .pages) p) o) Known (Mark p)
 
-abbrev pub planWord : Mem → ℕ → ℕ → Word → Plan
-planWord x c o (word.Is w) = planSpot x c o w (spotBy x w)
-planWord x c o word.Bad = Refuse 3
+-- offset o of chunk c, which is at a place
+abbrev pub intoPlace : Mem → ℕ → ℕ → Place → Plan
+intoPlace x c o Absent = startChunk x c
+intoPlace x c o (Sparse r l) = intoRow x r l (spotIn (rowPart (head x) (x .rows) r) l o)
+intoPlace x c o (Dense p) = intoPage x o p
 
--- 3, then 4, then the id
-abbrev pub planSplit : Mem → Split → Plan
-planSplit x (split.At c o) = planWord x c o (wordIn (x .table) c)
-planSplit x split.Negative = Known
+-- the prepared insert: only into a dense chunk
+abbrev pub intoDense : Mem → ℕ → Place → Plan
+intoDense x o Absent = Refuse not-prepared
+intoDense x o (Sparse r l) = Refuse not-prepared
+intoDense x o (Dense p) = intoPage x o p
 
-unfoldable pub planBy : Mem → Split → Plan
-planBy x q =
-    cond (shiftOk (x .table) && leb (modeAt (x .table)) 1)
-    (cond (eqb (modeAt (x .table)) 1) (Refuse 4) (planSplit x q))
-    (Refuse 3)
+-- a place's row or page lies inside its slice
+abbrev pub inside : Mem → Place → Bool
+inside x Absent = true
+inside x (Sparse r l) = leb (head x .m) 1024 && leb l (head x .m) && leb (r * head x .m + head x .m) (length (x .rows))
+inside x (Dense p) = ltb p 65536 && leb (p * wide (head x) + wide (head x)) (length (x .pages))
 
--- memory after, for an id of chunk c and offset o
-abbrev pub actBy : Mem → ℕ → ℕ → Plan → Mem
-actBy x c o (Refuse n) = x
-actBy x c o Known = x
-actBy x c o (Mark a n) = mem (putPart (x .pages) a n (withBit (take n (drop a (x .pages))) o)) (x .rows) (x .blocks) (x .table)
-actBy x c o (Enter a n l k w) =
-    mem (x .pages) (putPart (x .rows) a n (insertedAt (take n (drop a (x .rows))) l k o)) (x .blocks) (putWord (head x) (x .table) c (w + 1))
-actBy x c o (Begin r) = rowed (head x) x c r 1 (insertedAt (rowPart (head x) (x .rows) r) 0 0 o)
-actBy x c o (Turn r l p) =
-    paged (head x) x c (Sparse r l) p (withBit (withRow (pagePart (head x) (x .pages) p) 0 (rowPart (head x) (x .rows) r) (top (head x)) l) o)
+-- by the place that a chunk's word names; 3 where there is none
+abbrev pub byWord : Mem → (Place → Plan) → Word → Plan
+byWord x plan (word.Is w) = cond (inside x (decoded w)) (plan (decoded w)) (Refuse not-laid-out)
+byWord x plan word.Bad = Refuse not-laid-out
 
-abbrev pub actSplit : Mem → Split → Plan → Mem
-actSplit x (split.At c o) q = actBy x c o q
-actSplit x split.Negative q = x
+unfoldable pub insertPlan : Mem → ℕ → ℕ → Plan
+insertPlan x c o = byWord x (intoPlace x c o) (wordIn (x .table) c)
 
-abbrev pub answerOf : Plan → Truth
-answerOf (Refuse n) = truth.Refused n
-answerOf Known = truth.Is false
-answerOf (Mark a n) = truth.Is true
-answerOf (Enter a n l k w) = truth.Is true
-answerOf (Begin r) = truth.Is true
-answerOf (Turn r l p) = truth.Is true
+unfoldable pub preparedPlan : Mem → ℕ → ℕ → Plan
+preparedPlan x c o = byWord x (intoDense x o) (wordIn (x .table) c)
 
--- an answer, and memory after the call
+-- ---- what is answered, and memory after
+
 pub record Told : Type 0 where
   pub answer : Truth
   pub after : Mem
@@ -110,30 +103,50 @@ pub record Told : Type 0 where
 abbrev pub told : Truth → Mem → Told
 told a x = record { answer = a; after = x }
 
--- `set_if_new`
-unfoldable pub insertBy : Mem → ℤ → Told
-insertBy x z =
-    told (answerOf (planBy x (splitOf (getD (x .table) 0 0) z)))
-    (actSplit x (splitOf (getD (x .table) 0 0) z) (planBy x (splitOf (getD (x .table) 0 0) z)))
+-- offset o in page p
+abbrev pub marked : Mem → ℕ → ℕ → Mem
+marked x o p = mem (putPage (head x) (x .pages) p (withBit (pagePart (head x) (x .pages) p) o)) (x .rows) (x .blocks) (x .table)
 
--- the prepared insert: only into a dense chunk, else 9
-abbrev pub preparedSpot : Mem → ℕ → Spot → Plan
-preparedSpot x o Nowhere = Refuse 9
-preparedSpot x o (Row a n l) = Refuse 9
-preparedSpot x o (Page a n) = cond (isSet (take n (drop a (x .pages))) o) Known (Mark a n)
-preparedSpot x o Bad = Refuse 3
+-- offset o of chunk c at place k of row r, which had l members
+abbrev pub entered : Mem → ℕ → ℕ → ℕ → ℕ → ℕ → Mem
+entered x c o r l k =
+    mem (x .pages) (putRow (head x) (x .rows) r (insertedAt (rowPart (head x) (x .rows) r) l k o)) (x .blocks)
+    (putWord (head x) (x .table) c (encoded (Sparse r (l + 1))))
 
-abbrev pub preparedSplit : Mem → Split → Plan
-preparedSplit x (split.At c o) = preparedSpot x o (spotIf x (wordIn (x .table) c))
-preparedSplit x split.Negative = Refuse 9
+-- page p with the l members of row r and offset o
+abbrev pub turned : Mem → ℕ → ℕ → ℕ → ℕ → List ℕ
+turned x o r l p = withBit (withRow (pagePart (head x) (x .pages) p) 0 (rowPart (head x) (x .rows) r) (top (head x)) l) o
 
-unfoldable pub preparedPlan : Mem → Split → Plan
-preparedPlan x q =
+-- the plan for offset o of chunk c, carried out
+abbrev pub acted : Mem → ℕ → ℕ → Plan → Told
+acted x c o (Refuse n) = told (Refused n) x
+acted x c o Known = told (Is false) x
+acted x c o (Mark p) = told (Is true) (marked x o p)
+acted x c o (Enter r l k) = told (Is true) (entered x c o r l k)
+acted x c o (Begin r) = told (Is true) (rowed (head x) x c r 1 (insertedAt (rowPart (head x) (x .rows) r) 0 0 o))
+acted x c o (Turn r l p) = told (Is true) (paged (head x) x c (Sparse r l) p (turned x o r l p))
+
+-- ---- the calls
+
+-- 3, then 4, then what an open set does
+abbrev pub ifOpen : Mem → Told → Told
+ifOpen x t =
     cond (shiftOk (x .table) && leb (modeAt (x .table)) 1)
-    (cond (eqb (modeAt (x .table)) 1) (Refuse 4) (preparedSplit x q))
-    (Refuse 3)
+    (cond (eqb (modeAt (x .table)) 1) (told (Refused is-ranked) x) t)
+    (told (Refused not-laid-out) x)
+
+-- `set_if_new`
+abbrev pub insertAt : Mem → Split → Told
+insertAt x (split.At c o) = acted x c o (insertPlan x c o)
+insertAt x split.Negative = told (Is false) x
+
+unfoldable pub insertBy : Mem → ℤ → Told
+insertBy x z = ifOpen x (insertAt x (splitOf (getD (x .table) 0 0) z))
+
+-- the prepared insert
+abbrev pub preparedAt : Mem → Split → Told
+preparedAt x (split.At c o) = acted x c o (preparedPlan x c o)
+preparedAt x split.Negative = told (Refused not-prepared) x
 
 unfoldable pub preparedBy : Mem → ℤ → Told
-preparedBy x z =
-    told (answerOf (preparedPlan x (splitOf (getD (x .table) 0 0) z)))
-    (actSplit x (splitOf (getD (x .table) 0 0) z) (preparedPlan x (splitOf (getD (x .table) 0 0) z)))
+preparedBy x z = ifOpen x (preparedAt x (splitOf (getD (x .table) 0 0) z))

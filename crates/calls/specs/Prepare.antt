@@ -1,59 +1,49 @@
--- `pre_allocate` on any memory: judged by arithmetic, then a fold over chunk ids.
-use Prim.Native.Nat.{ℕ, zero, suc, _+_, _-_, _*_, _/_, _^_}
+-- `pre_allocate` on any memory: judged by arithmetic, then chunk after chunk made dense.
+use Prim.Native.Nat.{ℕ, zero, suc, _+_, _-_, _*_, _/_}
 use mathlib.Core.List.{List}
-use mathlib.Core.Bool.{Bool, true, false, cond, _&&_}
+use mathlib.Core.Bool.{cond, _&&_}
 use lib.IntN.{ℤ, pos, negsuc}
-use lib.Dec.{leb, ltb, eqb}
+use lib.Dec.{ltb, eqb}
 use Rattle.sums.specs.Ids.{count}
 use Rattle.dense.specs.Bits.{withRow}
 use Rattle.layout.specs.Mem.{Mem}
 use Rattle.document.specs.Sizes.{top}
+use Rattle.document.specs.Refusals.{not-laid-out, is-ranked, overflow-full, pages-full}
 use Rattle.layout.specs.Sizes.{head, modeAt, overCount}
-use Rattle.layout.specs.Places.{decoded, hasPage, rowPart, pagePart, pageOwner}
-use Rattle.layout.specs.Entries.{entries, chunkAt, placeAt}
-use Rattle.layout.specs.Short.{wordIn, overPlace}
+use Rattle.layout.specs.Places.{hasPage, rowPart, pagePart, pageOwner}
+use Rattle.layout.specs.Entries.{entries, chunkAt, placeAt, placeOf}
+use Rattle.layout.specs.Short.{overPlace}
+use Rattle.layout.specs.Free.{firstFree}
 use Rattle.layout.specs.Tests.{walked}
 use Rattle.layout.specs.SetUp.{Did, did}
 use Rattle.document.specs.declared.sizes.Sizes.{Sizes}
 use Rattle.layout.specs.declared.place.Place.{Place}
 use Rattle.layout.specs.declared.place.Place.the-variants.{Absent, Sparse, Dense}
-use Rattle.layout.specs.declared.find.Word.{Word}
-use Rattle.layout.specs.declared.find.Word.the-variants as word
 use Rattle.document.specs.declared.answer.Outcome.the-variants.{Done, Refused}
 use Rattle.steps.specs.Steps.{paged}
-use Rattle.calls.specs.Insert.{firstFree}
 
--- memory, and the page from which the next free one is looked for: pages are only taken
-pub record Work : Type 0 where
-  pub mem : Mem
-  pub next : ℕ
+-- the lowest free page, P where there is none
+abbrev pub lowestPage : Sizes → Mem → ℕ
+lowestPage h x = firstFree (pageOwner h (x .table)) 0 (h .p)
 
-abbrev pub work : Mem → ℕ → Work
-work x p = record { mem = x; next = p }
-
--- chunk c into page p, with the members of its row
+-- chunk c into page p, with the members of its row; a dense one stays where it is
 abbrev pub intoPage : Sizes → Mem → ℕ → ℕ → Place → Mem
 intoPage h x c p Absent = paged h x c Absent p (pagePart h (x .pages) p)
 intoPage h x c p (Sparse r l) = paged h x c (Sparse r l) p (withRow (pagePart h (x .pages) p) 0 (rowPart h (x .rows) r) (top h) l)
 intoPage h x c p (Dense q) = x
 
--- where a page is found
-abbrev pub intoFree : Sizes → Work → ℕ → Place → ℕ → Work
-intoFree h w c q p = cond (ltb p (h .p)) (work (intoPage h (w .mem) c p q) (p + 1)) w
+-- where page p is one of the pool's
+abbrev pub densedIn : Sizes → Mem → ℕ → ℕ → Mem
+densedIn h x c p = cond (ltb p (h .p)) (intoPage h x c p (placeOf h (x .table) c)) x
 
-abbrev pub densed : Sizes → Work → ℕ → Place → Work
-densed h w c Absent = intoFree h w c Absent (firstFree (pageOwner h (w .mem .table)) (w .next) (h .p - w .next))
-densed h w c (Sparse r l) = intoFree h w c (Sparse r l) (firstFree (pageOwner h (w .mem .table)) (w .next) (h .p - w .next))
-densed h w c (Dense q) = w
-
-abbrev pub densedWord : Sizes → Work → ℕ → Word → Work
-densedWord h w c (word.Is u) = densed h w c (decoded u)
-densedWord h w c word.Bad = w
+-- chunk c made dense: it takes the lowest free page
+abbrev pub densed : Sizes → Mem → ℕ → Mem
+densed h x c = densedIn h x c (lowestPage h x)
 
 -- chunks 0 to n - 1 made dense, in rising order
-unfoldable pub densedTo : Sizes → Work → ℕ → Work
-densedTo h w zero = w
-densedTo h w (suc n) = densedWord h (densedTo h w n) n (wordIn (densedTo h w n .mem .table) n)
+unfoldable pub densedTo : Sizes → Mem → ℕ → Mem
+densedTo h x zero = x
+densedTo h x (suc n) = densed h (densedTo h x n) n
 
 -- overflow entries and pages that are needed once chunks 0 to c are dense
 unfoldable pub overNeeded : Sizes → List ℕ → ℕ → ℕ
@@ -65,13 +55,15 @@ pagesNeeded h t c = count (λ (e : ℕ). ltb c (chunkAt h t e) && hasPage (place
 -- 6 before 8; 7 can't arise
 abbrev pub prepareTo : Sizes → Mem → ℕ → Did
 prepareTo h x c =
-    cond (ltb (h .v) (overNeeded h (x .table) c)) (did (Refused 6) x)
-    (cond (ltb (h .p) (pagesNeeded h (x .table) c)) (did (Refused 8) x)
-    (did Done (densedTo h (work x 0) (c + 1) .mem)))
+    cond (ltb (h .v) (overNeeded h (x .table) c)) (did (Refused overflow-full) x)
+    (cond (ltb (h .p) (pagesNeeded h (x .table) c)) (did (Refused pages-full) x)
+    (did Done (densedTo h x (c + 1))))
 
 abbrev pub prepareId : Mem → ℤ → Did
 prepareId x (pos n) = prepareTo (head x) x (n / top (head x))
 prepareId x (negsuc n) = did Done x
 
+-- 3, then 4, then the maximum
 unfoldable pub prepareBy : Mem → ℤ → Did
-prepareBy x z = cond (walked x) (cond (eqb (modeAt (x .table)) 1) (did (Refused 4) x) (prepareId x z)) (did (Refused 3) x)
+prepareBy x z =
+    cond (walked x) (cond (eqb (modeAt (x .table)) 1) (did (Refused is-ranked) x) (prepareId x z)) (did (Refused not-laid-out) x)

@@ -10,3 +10,4 @@ pub mod Short
 pub mod Seat
 pub mod Free
 pub mod Writes
+pub mod Spare

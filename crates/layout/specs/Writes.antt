@@ -4,7 +4,7 @@ use mathlib.Core.List.{List, [], _∷_, _++_}
 use mathlib.Core.Bool.{cond, _&&_}
 use lib.ListN.{length, getD, set, take, drop}
 use lib.Dec.{leb, ltb, eqb}
-use Rattle.layout.specs.Sizes.{directAt, overAt, rowOwnersAt, pageOwnersAt, overCount}
+use Rattle.layout.specs.Sizes.{wide, directAt, overAt, rowOwnersAt, pageOwnersAt, overCount}
 use Rattle.layout.specs.Entries.{prefixPlace}
 use Rattle.layout.specs.Short.{overPlace}
 use Rattle.document.specs.declared.sizes.Sizes.{Sizes}
@@ -43,3 +43,6 @@ putPageOwner h t p w = set t (pageOwnersAt h + p) w
 
 abbrev pub putRow : Sizes → List ℕ → ℕ → List ℕ → List ℕ
 putRow h rows r row = putPart rows (r * h .m) (h .m) row
+
+abbrev pub putPage : Sizes → List ℕ → ℕ → List ℕ → List ℕ
+putPage h pages p page = putPart pages (p * wide h) (wide h) page

@@ -25,7 +25,7 @@ pub fn decode(w: u64) -> Place
 
 // The word of a chunk with l members in row r.
 pub fn row_word(r: u64, l: u64) -> u64
-    requires { ⌜ (r ≤ 65536) × (l ≤ 2047) ⌝ }
+    requires { ⌜ (r ≤ 131072) × (l ≤ 2047) ⌝ }
     ensures { λ w. ⌜ w ≡ encoded (Sparse r l) ⌝ }
 {
     1 + (2048 * r + l)

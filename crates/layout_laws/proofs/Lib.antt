@@ -11,3 +11,6 @@ pub mod Ranks
 pub mod ChunkCounts
 pub mod Fresh
 pub mod SetUp
+pub mod StandsFor
+pub mod Crowds
+pub mod Spares

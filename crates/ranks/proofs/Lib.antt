@@ -7,3 +7,4 @@ pub mod Blocks
 pub mod Recounts
 pub mod Forms
 pub mod Returns
+pub mod Spares

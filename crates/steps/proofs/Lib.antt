@@ -6,3 +6,5 @@ pub mod Slots
 pub mod Rowed
 pub mod Paged
 pub mod Lent
+pub mod Orders
+pub mod Spares
