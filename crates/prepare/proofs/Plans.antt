@@ -25,19 +25,20 @@ use Rattle.layout.specs.Entries.{entries, chunkAt, placeAt}
 use Rattle.layout.specs.Short.{overPlace}
 use Rattle.layout.specs.Tests.{Walked, walked}
 use Rattle.layout.specs.SetUp.{Did, did}
-use Rattle.layout.specs.Follows.{Follows}
 use Rattle.document.specs.declared.sizes.Sizes.{Sizes}
 use Rattle.layout.specs.declared.place.Place.{Place}
 use Rattle.document.specs.declared.answer.Outcome.{Outcome}
 use Rattle.document.specs.declared.answer.Outcome.the-variants.{Done, Refused}
 use Rattle.layout.proofs.Tests.{walked-of}
-use Rattle.calls.specs.Prepare.{work, densedTo, overNeeded, pagesNeeded, prepareId, prepareBy}
-use Rattle.calls.proofs.Outcomes.{Prepares}
-use Rattle.calls.proofs.Preparing.{prepare-says}
+use Rattle.calls.specs.Prepare.{densedTo, overNeeded, pagesNeeded, prepareId, prepareBy}
+use Rattle.document.specs.Calls.{prepare, that}
+use Rattle.contracts.specs.Runs.{byOutcome}
+use Rattle.contracts.specs.Does.{Does}
+use Rattle.contracts.proofs.Steps.{does}
 use Rattle.prepare.specs.Plans.{planTo, planId, planPrepare}
 use Rattle.prepare.specs.Ready.{Sound}
-use Rattle.prepare.specs.declared.plan.Plan.{Plan}
-use Rattle.prepare.specs.declared.plan.Plan.the-variants.{Refuse, Nothing, Make}
+use Rattle.prepare.specs.declared.plan.Preparation.{Preparation}
+use Rattle.prepare.specs.declared.plan.Preparation.the-variants.{Refuse, Nothing, Make}
 
 -- ---- what is needed
 
@@ -61,7 +62,7 @@ module _ (h : Sizes) (t : List ℕ) (c : ℕ) where
 
   -- ---- 6 before 8
 
-  by : Bool → Bool → Plan
+  by : Bool → Bool → Preparation
   by a b = cond a (Refuse 6) (cond b (Refuse 8) (Make c))
 
   module _ (v : ℕ) (ev : v ≡ overNeeded h t c) where
@@ -83,12 +84,12 @@ module _ (h : Sizes) (t : List ℕ) (c : ℕ) where
 
 -- ---- 3, then 4
 
-abbrev by-chunk : Sizes → Mem → Natural → Plan
+abbrev by-chunk : Sizes → Mem → Natural → Preparation
 by-chunk h x (natural.At c) = planTo h (x .table) c
 by-chunk h x natural.Negative = Nothing
 
 module _ (x : Mem) (z : ℤ) (a : Bool) (ea : a ≡ walked x) where
-  gate : Bool → Bool → Plan
+  gate : Bool → Bool → Preparation
   gate i j = cond i (cond j (Refuse 4) (planId x z)) (Refuse 3)
 
   pub plan-three : a ≡ false → Refuse 3 ≡ planPrepare x z
@@ -140,16 +141,16 @@ chunk-small s (negsuc n) c low high f e = absurd (let g : _≡_ {A = ℕ} 0 1 = 
 
 -- ---- carried out
 
-abbrev acted : Mem → Plan → Did
+abbrev pub acted : Mem → Preparation → Did
 acted x (Refuse n) = did (Refused n) x
 acted x Nothing = did Done x
-acted x (Make c) = did Done (densedTo (head x) (work x 0) (c + 1) .mem)
+acted x (Make c) = did Done (densedTo (head x) x (c + 1))
 
 acted-by : (x : Mem) (z : ℤ) → acted x (planPrepare x z) ≡ prepareBy x z
 unfolding planPrepare planTo prepareBy
 acted-by x z = go (walked x) (eqb (modeAt (x .table)) 1) z
   where
-    pick : (a b : Bool) (c : ℕ) → acted x (cond a (Refuse 6) (cond b (Refuse 8) (Make c))) ≡ cond a (did (Refused 6) x) (cond b (did (Refused 8) x) (did Done (densedTo (head x) (work x 0) (c + 1) .mem)))
+    pick : (a b : Bool) (c : ℕ) → acted x (cond a (Refuse 6) (cond b (Refuse 8) (Make c))) ≡ cond a (did (Refused 6) x) (cond b (did (Refused 8) x) (did Done (densedTo (head x) x (c + 1))))
     pick true b c = refl
     pick false true c = refl
     pick false false c = refl
@@ -161,12 +162,12 @@ acted-by x z = go (walked x) (eqb (modeAt (x .table)) 1) z
     go true false (negsuc n) = refl
 
 -- a plan that was made, carried out
-pub plan-acted : (x : Mem) (z : ℤ) (q r : Plan) → q ≡ planPrepare x z → q ≡ r → acted x r ≡ prepareBy x z
+pub plan-acted : (x : Mem) (z : ℤ) (q r : Preparation) → q ≡ planPrepare x z → q ≡ r → acted x r ≡ prepareBy x z
 plan-acted x z q r e f = ap (acted x) (sym f ∙ e) ∙ acted-by x z
 
--- the same with what a customer reads
-pub says : (x : Mem) (z : ℤ) → SFits w64 z → (r : Outcome) (y : Mem) → did r y ≡ prepareBy x z → (did r y ≡ prepareBy x z) × (Follows x → Prepares x z r y)
-says x z f r y e = (e, λ w. subst (λ (d : Did). Prepares x z (d .answer) (d .after)) (sym e) (prepare-says w z f))
+-- what the contract says of it
+pub says : (x : Mem) (z : ℤ) → SFits w64 z → {r : Outcome} {y : Mem} → did r y ≡ prepareBy x z → Does x (prepare z) (that r) y
+says x z f e = does x (prepare z) f (ap byOutcome e)
 
 -- ---- a plan to make chunks dense stands on the walk and on room in the overflow table
 
@@ -176,7 +177,7 @@ not-make n c e = let z : _≡_ {A = ℕ} 0 1 = cc in omega arith
 not-nothing : (c : ℕ) → Nothing ≡ Make c → ⊥
 not-nothing c e = let z : _≡_ {A = ℕ} 0 1 = cc in omega arith
 
-gate-made : (a b : Bool) (p : Plan) (c : ℕ) → cond a (cond b (Refuse 4) p) (Refuse 3) ≡ Make c → (a ≡ true) × (p ≡ Make c)
+gate-made : (a b : Bool) (p : Preparation) (c : ℕ) → cond a (cond b (Refuse 4) p) (Refuse 3) ≡ Make c → (a ≡ true) × (p ≡ Make c)
 gate-made true true p c e = absurd (not-make 4 c e)
 gate-made true false p c e = (refl, e)
 gate-made false b p c e = absurd (not-make 3 c e)
@@ -207,7 +208,7 @@ sound x W b l =
       places = W .places;
     }
 
-pub plan-made : (x : Mem) (z : ℤ) (q : Plan) (c : ℕ) → q ≡ planPrepare x z → q ≡ Make c → Sound (x .pages) (x .rows) (x .table) × (overNeeded (headerAt (x .table)) (x .table) c ≤ headerAt (x .table) .v)
+pub plan-made : (x : Mem) (z : ℤ) (q : Preparation) (c : ℕ) → q ≡ planPrepare x z → q ≡ Make c → Sound (x .pages) (x .rows) (x .table) × (overNeeded (headerAt (x .table)) (x .table) c ≤ headerAt (x .table) .v)
 unfolding planPrepare
 plan-made x z q c e f =
     let g = gate-made (walked x) (eqb (modeAt (x .table)) 1) (planId x z) c (sym e ∙ f) in

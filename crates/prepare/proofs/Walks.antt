@@ -137,6 +137,11 @@ module _ (h : Sizes) (x : Mem) (W : Walked x h) (n : ℕ) (far : n < lastChunk h
   unfolding paged
   paged-wrote = wrote
 
+  -- every other page has the owner that it had
+  pub paged-owner : (j : ℕ) → j ≢ p → pageOwner h (paged h x n old p page .table) j ≡ pageOwner h (x .table) j
+  unfolding paged
+  paged-owner j d = getD-set-other (leftOwner h u old) (pageOwnersAt h + p) (pageOwnersAt h + j) (n + 1) 0 (omega arith) ∙ left-page old mine j
+
   pub paged-walked : Walked (paged h x n old p page) h
   unfolding paged
   paged-walked =

@@ -1,17 +1,27 @@
 -- The plan carried out is the call. Assumes nothing.
-use mathlib.Core.Path.{_∙_, ap}
+use mathlib.Core.Path.{_≡_, _∙_, ap}
 use Rattle.numbers.proofs.Signs.{hop}
 use Rattle.layout.specs.Mem.{Mem, memOf}
 use Rattle.layout.specs.SetUp.{did}
 use Rattle.document.specs.declared.answer.Outcome.the-variants.{Done}
+use Rattle.calls.specs.Prepare.{prepareBy}
 use Rattle.prepare.specs.Plans.{planPrepare}
-use Rattle.prepare.proofs.Plans.{plan-acted, plan-made, says}
+use Rattle.prepare.specs.declared.plan.Preparation.{Preparation}
+use Rattle.prepare.proofs.Plans.{acted, plan-acted, plan-made, says}
 use borrow.Author.Needs.{needs}
 use Rattle.prepare.proofs.pre_allocate.Statement.{statement}
 use Rattle.prepare.proofs.pre_allocate.Tie as tie
 
 abbrev memory : tie.Start → Mem
 memory c = memOf (c .args .pages) (c .args .rows) (c .args .blocks) (c .args .table)
+
+-- what was planned, and that carrying it out is the call
+planned : (c : tie.After-plan-for) → c .plan-for .result ≡ planPrepare (memory (c .before .before .before .before .before .before .before .before .before)) (c .before .before .before .before .before .before .before .before .before .args .max-id)
+planned c = let a = c .before .before .before .before .before .before .before .before .before in c .plan-for .ensures ∙ hop (planPrepare (memory a)) (a .args .max-id) (a .fits .max-id)
+
+acts : (c : tie.After-plan-for) (q : Preparation) → c .plan-for .result ≡ q →
+    acted (memory (c .before .before .before .before .before .before .before .before .before)) q ≡ prepareBy (memory (c .before .before .before .before .before .before .before .before .before)) (c .before .before .before .before .before .before .before .before .before .args .max-id)
+acts c q e = let a = c .before .before .before .before .before .before .before .before .before in plan-acted (memory a) (a .args .max-id) _ q (planned c) e
 
 plan-for-requires : tie.Need-plan-for-requires
 plan-for-requires c κs = search needs
@@ -26,7 +36,8 @@ enum-known-c : tie.Need-enum-known-c
 enum-known-c c = search needs
 
 make-all-requires : tie.Need-make-all-requires
-make-all-requires c κs = let a = c .before .before .before .before .before .before .before .before .before .before .before .before .before .before .before in plan-made (memory a) (a .args .max-id) _ _ (c .before .before .before .before .before .before .plan-for .ensures ∙ hop (planPrepare (memory a)) (a .args .max-id) (a .fits .max-id)) (c .before .before .before .before .c .given .1)
+make-all-requires c κs =
+    let a = c .before .before .before .before .before .before .before .before .before .before .before .before .before .before .before in plan-made (memory a) (a .args .max-id) _ _ (planned (c .before .before .before .before .before .before)) (c .before .before .before .before .c .given .1)
 
 same-length : tie.Need-same-length
 same-length c = search needs
@@ -41,7 +52,7 @@ same-length-4 : tie.Need-same-length-4
 same-length-4 c = search needs
 
 returns : tie.Need-returns
-returns c = let a = c .before .before .before .before .before .before .before .before .before .before .before .before in says (memory a) (a .args .max-id) (a .fits .max-id) _ _ (plan-acted (memory a) (a .args .max-id) _ _ (c .before .before .before .plan-for .ensures ∙ hop (planPrepare (memory a)) (a .args .max-id) (a .fits .max-id)) (c .before .n .given .1))
+returns c = let a = c .before .before .before .before .before .before .before .before .before .before .before .before in says (memory a) (a .args .max-id) (a .fits .max-id) (acts (c .before .before .before) _ (c .before .n .given .1))
 
 same-length-5 : tie.Need-same-length-5
 same-length-5 c = search needs
@@ -56,7 +67,7 @@ same-length-8 : tie.Need-same-length-8
 same-length-8 c = search needs
 
 returns-2 : tie.Need-returns-2
-returns-2 c = let a = c .before .before .before .before .before .before .before .before .before .before .before in says (memory a) (a .args .max-id) (a .fits .max-id) _ _ (plan-acted (memory a) (a .args .max-id) _ _ (c .before .before .plan-for .ensures ∙ hop (planPrepare (memory a)) (a .args .max-id) (a .fits .max-id)) (c .enum-told .given .1))
+returns-2 c = let a = c .before .before .before .before .before .before .before .before .before .before .before in says (memory a) (a .args .max-id) (a .fits .max-id) (acts (c .before .before) _ (c .enum-told .given .1))
 
 same-length-9 : tie.Need-same-length-9
 same-length-9 c = search needs
@@ -71,7 +82,10 @@ same-length-12 : tie.Need-same-length-12
 same-length-12 c = search needs
 
 returns-3 : tie.Need-returns-3
-returns-3 c = let a = c .before .before .before .before .before .before .before .before .before .before .before .before .before .before .before .before .before .before .before .before .before .before in says (memory a) (a .args .max-id) (a .fits .max-id) _ _ (ap (did Done) (c .before .before .before .before .before .before .make-all .ensures (a .args .blocks .now)) ∙ plan-acted (memory a) (a .args .max-id) _ _ (c .before .before .before .before .before .before .before .before .before .before .before .before .before .plan-for .ensures ∙ hop (planPrepare (memory a)) (a .args .max-id) (a .fits .max-id)) (c .before .before .before .before .before .before .before .before .before .before .before .c .given .1))
+returns-3 c =
+    let a = c .before .before .before .before .before .before .before .before .before .before .before .before .before .before .before .before .before .before .before .before .before .before in
+    says (memory a) (a .args .max-id) (a .fits .max-id)
+    (ap (did Done) (c .before .before .before .before .before .before .make-all .ensures (a .args .blocks .now)) ∙ acts (c .before .before .before .before .before .before .before .before .before .before .before .before .before) _ (c .before .before .before .before .before .before .before .before .before .before .before .c .given .1))
 
 pub pre-allocate-spec : {M : Type 1} → statement M
 pre-allocate-spec =
