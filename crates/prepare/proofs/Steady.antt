@@ -34,17 +34,17 @@ use Rattle.calls.specs.Prepare.{lowestPage, intoPage, densedIn, densed, densedT
 use Rattle.calls.proofs.FirstFree.{First, first-free}
 use Rattle.prepare.specs.Ready.{Sound, RowInside, Turnable}
 use Rattle.prepare.proofs.Cursor.{first-from}
-use Rattle.prepare.proofs.Spares.{above, above-fits, above-kept, spare-left}
+use Rattle.prepare.proofs.Spares.{entriesPast, past-fits, past-kept, spare-left}
 use Rattle.prepare.proofs.Walks.{paged-wrote, paged-owner, paged-walked}
 
 -- memory that passed the walk, with entries for chunks 0 to c
 pub record Steady (h : Sizes) (c : ℕ) (x : Mem) : Type 0 where
   pub walked : Walked x h
   pub header : head x ≡ h
-  pub spare : above h (x .table) c + (c + 1) ≤ h .d + h .v
+  pub spare : entriesPast h (x .table) c + (c + 1) ≤ h .d + h .v
 
 pub steady-none : (x : Mem) (c : ℕ) → Walked x (head x) → overNeeded (head x) (x .table) c ≤ head x .v → Steady (head x) c x
-steady-none x c W need = record { walked = W; header = refl; spare = above-fits (head x) (x .table) (walked-ordered W) c (W .over-fits) need }
+steady-none x c W need = record { walked = W; header = refl; spare = past-fits (head x) (x .table) (walked-ordered W) c (W .over-fits) need }
 
 -- the word that the turn of chunk n finds
 word-is : (h : Sizes) (c : ℕ) (x : Mem) → Steady h c x → (n : ℕ) → wordIn (x .table) n ≡ word.Is (wordOf h (x .table) n)
@@ -84,7 +84,7 @@ module _ (h : Sizes) (c : ℕ) (x : Mem) (s : Steady h c x) (n : ℕ) (le : n �
       let o = walked-ordered (s .walked) in
       let left = spare-left h (x .table) o c n le (s .spare) in
       let wrote = paged-wrote h x (s .walked) n far left old is p l z page long in
-      let k = above-kept h (x .table) o c _ n _ le wrote in
+      let k = past-kept h (x .table) o c _ n _ le wrote in
       record {
         steady =
             record {
@@ -162,7 +162,7 @@ pub sound-range : (ps rs t : List ℕ) → Sound ps rs t → InRange (headerAt t
 sound-range ps rs t ok = sound-walked ps rs t ok .sizes
 
 -- after the turns of chunks 0 to i - 1, with p the lowest free page
-pub record Sofar (h : Sizes) (ps₀ rs₀ t₀ : List ℕ) (c : ℕ) (ps rs t : List ℕ) (p i : ℕ) : Type 0 where
+pub record Underway (h : Sizes) (ps₀ rs₀ t₀ : List ℕ) (c : ℕ) (ps rs t : List ℕ) (p i : ℕ) : Type 0 where
   pub header : h ≡ headerAt t₀
   pub turns : i ≤ c + 1
   pub lowest : p ≡ firstFree (pageOwner h t) 0 (h .p)
@@ -172,32 +172,34 @@ pub record Sofar (h : Sizes) (ps₀ rs₀ t₀ : List ℕ) (c : ℕ) (ps rs t : 
   pub same : (b : List ℕ) → mem ps rs b t ≡ densedTo h (mem ps₀ rs₀ b t₀) i
 
 module _ (h : Sizes) (ps₀ rs₀ t₀ : List ℕ) (c : ℕ) where
-  pub sofar-none : h ≡ headerAt t₀ → (p : ℕ) → p ≡ firstFree (pageOwner h t₀) 0 (h .p) → Sofar h ps₀ rs₀ t₀ c ps₀ rs₀ t₀ p 0
+  pub underway-none : h ≡ headerAt t₀ → (p : ℕ) → p ≡ firstFree (pageOwner h t₀) 0 (h .p) → Underway h ps₀ rs₀ t₀ c ps₀ rs₀ t₀ p 0
   unfolding densedTo
-  sofar-none e p f = record { header = e; turns = omega arith; lowest = f; pages-long = refl; rows-long = refl; table-long = refl; same = λ b. refl }
+  underway-none e p f = record { header = e; turns = omega arith; lowest = f; pages-long = refl; rows-long = refl; table-long = refl; same = λ b. refl }
 
-  module _ (ok : Sound ps₀ rs₀ t₀) (need : overNeeded (headerAt t₀) t₀ c ≤ headerAt t₀ .v) (ps rs t : List ℕ) (p i : ℕ) (s : Sofar h ps₀ rs₀ t₀ c ps rs t p i) where
-    sofar-steady : Steady h c (mem ps rs (blocksFor t₀) t)
-    sofar-steady =
+  module _ (ok : Sound ps₀ rs₀ t₀) (need : overNeeded (headerAt t₀) t₀ c ≤ headerAt t₀ .v) (ps rs t : List ℕ) (p i : ℕ)
+      (s : Underway h ps₀ rs₀ t₀ c ps rs t p i) where
+    underway-steady : Steady h c (mem ps rs (blocksFor t₀) t)
+    underway-steady =
         let x = mem ps₀ rs₀ (blocksFor t₀) t₀ in
         let none : Steady h c x = subst (λ (g : Sizes). Steady g c x) (sym (s .header)) (steady-none x c (sound-walked ps₀ rs₀ t₀ ok) need) in
         subst (Steady h c) (sym (s .same (blocksFor t₀))) (steady h c x none i (s .turns))
 
-    pub sofar-turn : i ≤ c → Turnable h ps rs t i
-    sofar-turn l = turnable h c (mem ps rs (blocksFor t₀) t) sofar-steady i l
+    pub underway-turn : i ≤ c → Turnable h ps rs t i
+    underway-turn l = turnable h c (mem ps rs (blocksFor t₀) t) underway-steady i l
 
     -- the cursor is a page, or the one past them
-    pub sofar-cursor : p ≤ 65536
-    sofar-cursor =
+    pub underway-cursor : p ≤ 65536
+    underway-cursor =
         let e = s .lowest in
         let a = first-free (pageOwner h t) 0 (h .p) .high in
-        let b = sofar-steady .walked .sizes .p-high in
+        let b = underway-steady .walked .sizes .p-high in
         omega arith
 
-    pub sofar-more : i ≤ c → (ps′ rs′ t′ : List ℕ) (p′ : ℕ) → length ps′ ≡ length ps → length rs′ ≡ length rs → length t′ ≡ length t
-        → ((b : List ℕ) → mem ps′ rs′ b t′ ≡ densedIn h (mem ps rs b t) i p) → p′ ≡ firstFree (pageOwner h t′) p (h .p - p) → Sofar h ps₀ rs₀ t₀ c ps′ rs′ t′ p′ (i + 1)
+    pub underway-more : i ≤ c → (ps′ rs′ t′ : List ℕ) (p′ : ℕ) → length ps′ ≡ length ps → length rs′ ≡ length rs → length t′ ≡ length t
+        → ((b : List ℕ) → mem ps′ rs′ b t′ ≡ densedIn h (mem ps rs b t) i p) → p′ ≡ firstFree (pageOwner h t′) p (h .p - p)
+        → Underway h ps₀ rs₀ t₀ c ps′ rs′ t′ p′ (i + 1)
     unfolding densedTo
-    sofar-more l ps′ rs′ t′ p′ lp lr lt e f =
+    underway-more l ps′ rs′ t′ p′ lp lr lt e f =
         let x = mem ps rs (blocksFor t₀) t in
         let turn : (b : List ℕ) → mem ps′ rs′ b t′ ≡ densed h (mem ps rs b t) i = λ b. e b ∙ ap (densedIn h (mem ps rs b t) i) (s .lowest) in
         record {
@@ -205,14 +207,15 @@ module _ (h : Sizes) (ps₀ rs₀ t₀ : List ℕ) (c : ℕ) where
           turns = omega arith;
           lowest =
               f ∙ ap (λ (q : ℕ). firstFree (pageOwner h t′) q (h .p - q)) (s .lowest)
-              ∙ subst (λ (y : Mem). firstFree (pageOwner h (y .table)) (lowestPage h x) (h .p - lowestPage h x) ≡ lowestPage h y) (sym (turn (blocksFor t₀))) (onward h c x sofar-steady i l);
+              ∙ subst (λ (y : Mem). firstFree (pageOwner h (y .table)) (lowestPage h x) (h .p - lowestPage h x) ≡ lowestPage h y)
+              (sym (turn (blocksFor t₀))) (onward h c x underway-steady i l);
           pages-long = lp ∙ s .pages-long;
           rows-long = lr ∙ s .rows-long;
           table-long = lt ∙ s .table-long;
           same = λ b. turn b ∙ ap (λ (y : Mem). densed h y i) (s .same b) ∙ ap (densedTo h (mem ps₀ rs₀ b t₀)) (sym (add-one i));
         }
 
-    pub sofar-end : c < i → (b : List ℕ) → mem ps rs b t ≡ densedTo (headerAt t₀) (mem ps₀ rs₀ b t₀) (c + 1)
-    sofar-end l b =
+    pub underway-end : c < i → (b : List ℕ) → mem ps rs b t ≡ densedTo (headerAt t₀) (mem ps₀ rs₀ b t₀) (c + 1)
+    underway-end l b =
         let e : i ≡ c + 1 = let m = s .turns in omega arith in
         s .same b ∙ ap₂ (λ (g : Sizes) (j : ℕ). densedTo g (mem ps₀ rs₀ b t₀) j) (s .header) e

@@ -9,7 +9,7 @@ ghost use Rattle.layout.specs.Sizes.{overCount};
 ghost use Rattle.layout.specs.Places.{hasPage};
 ghost use Rattle.layout.specs.Entries.{chunkAt, placeAt};
 ghost use Rattle.calls.specs.Prepare.{overNeeded, pagesNeeded};
-ghost use Rattle.prepare.specs.Plans.{planTo, planPrepare};
+ghost use Rattle.prepare.specs.PreparePlan.{planTo, planPrepare};
 use document::sizes::Sizes;
 use layout::entry;
 use layout::find;

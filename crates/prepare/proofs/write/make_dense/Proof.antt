@@ -6,7 +6,8 @@ use Rattle.layout.specs.Mem.{Mem, mem}
 use Rattle.layout.specs.Entries.{placeOf}
 use Rattle.layout.specs.declared.place.Place.{Place}
 use Rattle.layout.specs.declared.place.Place.the-variants.{Absent, Sparse, Dense}
-use Rattle.prepare.proofs.Turns.{no-page, in-page, absent-page, never-bad, place-is, row-of}
+use Rattle.calls.specs.Prepare.{intoPage, densedIn}
+use Rattle.prepare.proofs.ChunkTurn.{no-page, in-page, absent-page, never-bad, place-is, inside-same}
 use borrow.Author.Needs.{needs}
 use Rattle.prepare.proofs.write.make_dense.Statement.{statement}
 use Rattle.prepare.proofs.write.make_dense.Tie as tie
@@ -14,13 +15,24 @@ use Rattle.prepare.proofs.write.make_dense.Tie as tie
 abbrev memory : tie.Start → List ℕ → Mem
 memory a bs = mem (a .args .pages .now) (a .args .rows .now) bs (a .args .table .now)
 
+abbrev start : tie.After-decode → tie.Start
+start d = d .before .before .before .before .before .before .before .before .before .before .before
+
 -- the place that was decoded is the chunk's
-found : (c : tie.After-decode) (q : Place) → c .decode .result ≡ q →
-    q ≡ placeOf (c .before .before .before .before .before .before .before .before .before .before .before .args .h) (c .before .before .before .before .before .before .before .before .before .before .before .args .table .now) (c .before .before .before .before .before .before .before .before .before .before .before .args .c)
-found c q e =
-    let a = c .before .before .before .before .before .before .before .before .before .before .before in
-    place-is (a .args .h) (a .args .table .now) (a .args .c) (a .pre .word) _ (c .before .before .before .before .word-of .ensures) _ _ q (c .before .before .w .given .1)
-    (c .decode .ensures) e
+found : (d : tie.After-decode) (q : Place) → d .decode .result ≡ q → q ≡ placeOf (start d .args .h) (start d .args .table .now) (start d .args .c)
+found d q e =
+    let a = start d in
+    place-is (a .args .h) (a .args .table .now) (a .args .c) (a .pre .word) _
+    (d .before .before .before .before .word-of .ensures) _ _ q (d .before .before .w .given .1)
+    (d .decode .ensures) e
+
+-- what was written for it is what the model writes
+wrote : (d : tie.After-decode) (q : Place) → d .decode .result ≡ q → (bs : List ℕ) {y : Mem} →
+    y ≡ intoPage (start d .args .h) (memory (start d) bs) (start d .args .c) (start d .args .p) q →
+    y ≡ densedIn (start d .args .h) (memory (start d) bs) (start d .args .c) (start d .args .p)
+wrote d q e bs =
+    let g = start d .args in
+    in-page (g .h) (memory (start d) bs) (g .c) (g .p) (d .before .before .before .before .before .before .if1 .left) q (found d q e)
 
 returns : tie.Need-returns
 returns c = let a = c .before .before .before .before .before in λ bs. no-page (a .args .h) (memory a bs) (a .args .c) (a .args .p) (c .if1 .taken)
@@ -56,9 +68,14 @@ enum-known-r c = search needs
 
 turn-row-requires : tie.Need-turn-row-requires
 turn-row-requires c κs =
-    let t = c .before .before .before .before .before .before .before .before .before .before .before .before .before .before .before .before .before .pre in
-    let i = row-of _ _ _ (found (c .before .before .before .before .before .before) _ (c .before .before .before .before .r .given .1)) (t .row) in
-    (record { sizes = t .sizes; in-pages = t .in-pages; in-rows = t .in-rows; row = i .0; members = i .1 }, c .before .before .before .before .before .before .before .before .before .before .before .before .if1 .left, t .over, t .chunk)
+    let d = c .before .before .before .before .before .before in
+    let t = start d .pre in
+    let i = inside-same _ _ _ (found d _ (c .before .before .before .before .r .given .1)) (t .row) in (
+      record { sizes = t .sizes; in-pages = t .in-pages; in-rows = t .in-rows; row = i .0; members = i .1 },
+      d .before .before .before .before .before .before .if1 .left,
+      t .over,
+      t .chunk,
+    )
 
 enum-told-3 : tie.Need-enum-told-3
 enum-told-3 c = search needs
@@ -68,9 +85,9 @@ same-length-2 c = search needs
 
 returns-3 : tie.Need-returns-3
 returns-3 c =
-    let a = c .before .before .before .before .before .before .before .before .before .before .before .before .before .before .before .before .before in
-    let g = a .args in
-    λ bs. in-page (g .h) (memory a bs) (g .c) (g .p) (c .before .before .before .before .before .before .before .before .before .before .before .before .if1 .left) Absent (found (c .before .before .before .before .before .before) Absent (c .before .before .before .before .enum-told2 .given .1))
+    let d = c .before .before .before .before .before .before in
+    let g = start d .args in
+    λ bs. wrote d Absent (c .before .before .before .before .enum-told2 .given .1) bs
     (absent-page (g .h) (g .c) (g .p) (g .pages .now) (g .rows .now) bs (g .table .now) _ (c .before .before .enter-page .ensures))
 
 same-length-3 : tie.Need-same-length-3
@@ -84,19 +101,15 @@ same-length-5 c = search needs
 
 returns-4 : tie.Need-returns-4
 returns-4 c =
-    let a = c .before .before .before .before .before .before .before .before .before .before .before .before .before .before .before .before .before .before .before .before .before .before .before .before in
-    let g = a .args in
-    λ bs. in-page (g .h) (memory a bs) (g .c) (g .p) (c .before .before .before .before .before .before .before .before .before .before .before .before .before .before .before .before .before .before .before .if1 .left) (Sparse _ _) (found (c .before .before .before .before .before .before .before .before .before .before .before .before .before) _ (c .before .before .before .before .before .before .before .before .before .before .before .r .given .1))
-    (c .before .before .before .before .before .before .turn-row .ensures bs)
+    let t = c .before .before .before .before .before .before in
+    λ bs. wrote (t .before .before .before .before .before .before .before) (Sparse _ _)
+    (t .before .before .before .before .before .r .given .1) bs (t .turn-row .ensures bs)
 
 same-length-6 : tie.Need-same-length-6
 same-length-6 c = search needs
 
 returns-5 : tie.Need-returns-5
-returns-5 c =
-    let a = c .before .before .before .before .before .before .before .before .before .before .before .before .before in
-    let g = a .args in
-    λ bs. in-page (g .h) (memory a bs) (g .c) (g .p) (c .before .before .before .before .before .before .before .before .if1 .left) (Dense _) (found (c .before .before) _ (c .enum-told3 .given .1)) refl
+returns-5 c = λ bs. wrote (c .before .before) (Dense _) (c .enum-told3 .given .1) bs refl
 
 pub make-dense-spec : {M : Type 1} → statement M
 make-dense-spec =

@@ -1,5 +1,5 @@
 -- The page, then the row, then the table. Assumes nothing.
-use Rattle.prepare.proofs.Turns.{sparse-page}
+use Rattle.prepare.proofs.ChunkTurn.{sparse-page}
 use borrow.Author.Needs.{needs}
 use Rattle.prepare.proofs.write.turn_row.Statement.{statement}
 use Rattle.prepare.proofs.write.turn_row.Tie as tie
@@ -24,9 +24,10 @@ same-length-3 c = search needs
 
 returns : tie.Need-returns
 returns c =
-    let a = c .before .before .before .before .before .before .before .before .before .before .before .before .before .before .before .before .args in
+    let f = c .before .before .before .before .before .before .before .before .before .before in
+    let a = f .before .before .before .before .before .before .args in
     λ bs. sparse-page (a .h) (a .c) (a .p) (a .pages .now) (a .rows .now) bs (a .table .now) (a .r) (a .l) _ _ _
-    (c .before .before .before .before .before .before .before .before .before .before .fill-page .ensures) (c .before .before .before .before .before .before .free-row .ensures) (c .before .before .turn-entry .ensures)
+    (f .fill-page .ensures) (c .before .before .before .before .before .before .free-row .ensures) (c .before .before .turn-entry .ensures)
 
 pub turn-row-spec : {M : Type 1} → statement M
 turn-row-spec = tie.close (tie.spec fill-page-requires free-row-requires turn-entry-requires same-length same-length-2 same-length-3 returns)

@@ -22,7 +22,7 @@ use Rattle.layout.specs.Writes.{putPart, putWord, putRowOwner, putPageOwner, pu
 use Rattle.steps.specs.Steps.{paged}
 use Rattle.calls.specs.Prepare.{intoPage, densedIn}
 use Rattle.prepare.specs.Ready.{RowInside}
-use Rattle.prepare.proofs.Fills.{put-same}
+use Rattle.prepare.proofs.Fills.{put-back}
 
 -- ---- there is no page p, or it gets the chunk
 
@@ -40,7 +40,7 @@ module _ (h : Sizes) (x : Mem) (c p : ℕ) where
 module _ (h : Sizes) (c p : ℕ) (ps rs bs t : List ℕ) where
   pub absent-page : (t′ : List ℕ) → t′ ≡ putPageOwner h (putWord h t c (encoded (Dense p))) p (c + 1) → mem ps rs bs t′ ≡ intoPage h (mem ps rs bs t) c p Absent
   unfolding paged
-  absent-page t′ e = ap₂ (λ (u v : List ℕ). mem u rs bs v) (sym (put-same ps (p * wide h) (wide h))) e
+  absent-page t′ e = ap₂ (λ (u v : List ℕ). mem u rs bs v) (sym (put-back ps (p * wide h) (wide h))) e
 
   pub sparse-page : (r l : ℕ) (ps′ rs′ t′ : List ℕ) → ps′ ≡ putPart ps (p * wide h) (wide h) (withRow (pagePart h ps p) 0 (rowPart h rs r) (top h) l)
       → rs′ ≡ putRow h rs r (replicate (h .m) 0) → t′ ≡ putPageOwner h (putRowOwner h (putWord h t c (encoded (Dense p))) r 0) p (c + 1)
@@ -60,5 +60,5 @@ module _ (h : Sizes) (t : List ℕ) (c : ℕ) (has : wordIn t c ≡ word.Is (wor
   place-is w p q e f g = sym g ∙ f ∙ ap decoded (let i : w ≡ wordOf h t c = cc in i)
 
 -- a row that is the chunk's place lies inside its pool
-pub row-of : (h : Sizes) (p q : Place) → p ≡ q → RowInside h q → RowInside h p
-row-of h p q e i = subst (RowInside h) (sym e) i
+pub inside-same : (h : Sizes) (p q : Place) → p ≡ q → RowInside h q → RowInside h p
+inside-same h p q e i = subst (RowInside h) (sym e) i
