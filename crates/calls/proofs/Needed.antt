@@ -121,7 +121,8 @@ module _ {x : Mem} (w : Follows x) (c : ℕ) (far : c < lastChunk (head x)) wher
   abbrev by : ℕ → ℕ → Bool
   by = λ (i v : ℕ). leb (head x .d) i && isPresent (kindOf (decoded v))
 
-  over-by : (i : ℕ) (b : Bool) → leb (head x .d) i ≡ b → (b && isPresent (kinds x i)) ≡ (b && isPresent (kindOf (decoded (beside key val (overCount (x .table)) i))))
+  over-by : (i : ℕ) (b : Bool) → leb (head x .d) i ≡ b
+      → (b && isPresent (kinds x i)) ≡ (b && isPresent (kindOf (decoded (beside key val (overCount (x .table)) i))))
   unfolding kinds
   over-by i true e = ap (λ (v : ℕ). isPresent (kindOf (decoded v))) (word-of-over (head x) (x .table) i (leb-true (head x .d) i e))
   over-by i false e = refl
@@ -169,14 +170,16 @@ module _ {x : Mem} (w : Follows x) (c : ℕ) (far : c < lastChunk (head x)) wher
   unfolding pagesNeeded denses
   pages-needed =
       let a = count-kinds x (laid-ordered w) past (λ i. and-false (ltb c i)) in
-      let s = count-ext (λ (e : ℕ). past (chunkAt (head x) (x .table) e) (kindOf (placeAt (head x) (x .table) e))) (λ (e : ℕ). ltb c (chunkAt (head x) (x .table) e) && Places.hasPage (placeAt (head x) (x .table) e)) (entries (head x) (x .table))
+      let s = count-ext (λ (e : ℕ). past (chunkAt (head x) (x .table) e) (kindOf (placeAt (head x) (x .table) e)))
+      (λ (e : ℕ). ltb c (chunkAt (head x) (x .table) e) && Places.hasPage (placeAt (head x) (x .table) e)) (entries (head x) (x .table))
       (λ e l. ap (λ (b : Bool). ltb c (chunkAt (head x) (x .table) e) && b) (dense-kind (placeAt (head x) (x .table) e))) in
       let b = whole (λ (i : ℕ). past i (kinds x i)) in
       let z = count-none (λ (i : ℕ). past i (kinds x i)) (c + 1) (λ i l. ap (λ (q : Bool). q && isDense (kinds x i)) (le-ltb c i (omega arith))) in
       let f = whole (λ (i : ℕ). isDense (map i)) in
       let g = count-full (λ (i : ℕ). isDense (map i)) (c + 1) (λ i l. ap isDense (dense-low x c i (omega arith))) in
       let i = count-ext (λ (j : ℕ). isDense (map (c + 1 + j))) (λ (j : ℕ). past (c + 1 + j) (kinds x (c + 1 + j))) rest
-      (λ j l. ap isDense (dense-high x c (c + 1 + j) (omega arith)) ∙ ap (λ (q : Bool). q && isDense (kinds x (c + 1 + j))) (sym (lt-ltb c (c + 1 + j) (omega arith)))) in
+      (λ j l. ap isDense (dense-high x c (c + 1 + j) (omega arith))
+      ∙ ap (λ (q : Bool). q && isDense (kinds x (c + 1 + j))) (sym (lt-ltb c (c + 1 + j) (omega arith)))) in
       omega arith
     where
       dense-kind : (p : Place) → isDense (kindOf p) ≡ Places.hasPage p
@@ -196,5 +199,8 @@ module _ {x : Mem} (w : Follows x) (c : ℕ) (far : c < lastChunk (head x)) wher
       omega arith
 
 -- a kind that a dense chunk meets is met by more chunks once more are dense
-pub dense-more : (x : Mem) (c : ℕ) (g : Kind → Bool) → g dense ≡ true → (k : Kind) (i : ℕ) → (c < i → k ≡ kinds x i) → g k ≡ true → g (denseMap (stateOf x) c i) ≡ true
-dense-more x c g d k i f e = sides (λ (j : ℕ). (c < j → k ≡ kinds x j) → g (denseMap (stateOf x) c j) ≡ true) c (λ j l _. ap g (dense-low x c j l) ∙ d) (λ j l q. ap g (dense-high x c j l ∙ sym (q l)) ∙ e) i f
+pub dense-more : (x : Mem) (c : ℕ) (g : Kind → Bool) → g dense ≡ true → (k : Kind) (i : ℕ) → (c < i → k ≡ kinds x i) → g k ≡ true
+    → g (denseMap (stateOf x) c i) ≡ true
+dense-more x c g d k i f e =
+    sides (λ (j : ℕ). (c < j → k ≡ kinds x j) → g (denseMap (stateOf x) c j) ≡ true) c
+    (λ j l _. ap g (dense-low x c j l) ∙ d) (λ j l q. ap g (dense-high x c j l ∙ sym (q l)) ∙ e) i f

@@ -28,7 +28,7 @@ use Rattle.document.specs.Room.{overflows, denses}
 use Rattle.calls.specs.Prepare.{lowestPage, densed, densedTo, overNeeded, pagesNeeded, prepareBy}
 use Rattle.calls.proofs.FirstFree.{first-free}
 use Rattle.calls.proofs.Needed.{over-needed, pages-needed}
-use Rattle.calls.proofs.Sofar.{Sofar, into, into-becomes, into-is, stays}
+use Rattle.calls.proofs.Sofar.{Sofar, takes-page, takes-becomes, takes-is, stays}
 use Rattle.calls.proofs.Preparing.{sofar}
 
 -- from memory y to memory z chunk c takes the lowest page that is free in y
@@ -45,10 +45,10 @@ module _ (x : Mem) (mode : ranked x ≡ false) (c n : ℕ) (le : n ≤ c) (far :
     (over : overflows (head x) (denseMap (stateOf x) c) ≤ head x .v) (pages : denses (head x) (denseMap (stateOf x) c) ≤ head x .p) where
   takes : (q : Place) → placeOf (head y) (y .table) n ≡ q → hasPage q ≡ false → TakesLowest (head y) y (densed (head y) y n) n
   takes q e k =
-      let i = into x mode c n le far y s over pages q e k in
-      let b = into-becomes x mode c n le far y s over pages q e i in
+      let i = takes-page x mode c n le far y s over pages q e k in
+      let b = takes-becomes x mode c n le far y s over pages q e i in
       let f = first-free (pageOwner (head y) (y .table)) 0 (head y .p) in
-      subst (λ (z : Mem). TakesLowest (head y) y z n) (sym (into-is x mode c n le far y s over pages q e i))
+      subst (λ (z : Mem). TakesLowest (head y) y z n) (sym (takes-is x mode c n le far y s over pages q e i))
       (record {
         page = lowestPage (head y) y;
         inside = i .there;
@@ -96,7 +96,9 @@ refused-done k e = let z : _≡_ {A = ℕ} 0 1 = cc in omega arith
 -- by the four tests
 abbrev by : Mem → ℕ → Bool → Bool → Bool → Bool → Did
 by x c a b u v =
-    cond a (cond b (did (Refused is-ranked) x) (cond u (did (Refused overflow-full) x) (cond v (did (Refused pages-full) x) (did Done (densedTo (head x) x (c + 1))))))
+    cond a
+    (cond b (did (Refused is-ranked) x)
+    (cond u (did (Refused overflow-full) x) (cond v (did (Refused pages-full) x) (did Done (densedTo (head x) x (c + 1))))))
     (did (Refused not-laid-out) x)
 
 accepted-by : (x : Mem) (c : ℕ) (a b u v : Bool) → ranked x ≡ b → ltb (head x .v) (overNeeded (head x) (x .table) c) ≡ u

@@ -124,10 +124,12 @@ module _ {x : Mem} (w : Follows x) where
         let l = ltb-false (head x .p) (pagesNeeded (head x) (x .table) c) q in
         let i = pages-needed w c far in
         let p : denses (head x) map ≤ head x .p = omega arith in
-        done-prepare n (densedTo (head x) x (c + 1)) (sofar w mode c far ov p (c + 1) (omega arith)) (wanted ∙ ap done (verdict-room (head x) map (truth.Is true) ov (rows-enough w c far) p))
+        done-prepare n (densedTo (head x) x (c + 1)) (sofar w mode c far ov p (c + 1) (omega arith))
+        (wanted ∙ ap done (verdict-room (head x) map (truth.Is true) ov (rows-enough w c far) p))
 
     six : (b : Bool) → ltb (head x .v) (overNeeded (head x) (x .table) c) ≡ b
-        → Says x (pos n) (cond b (did (Refused 6) x) (cond (ltb (head x .p) (pagesNeeded (head x) (x .table) c)) (did (Refused 8) x) (did Done (densedTo (head x) x (c + 1)))))
+        → Says x (pos n)
+        (cond b (did (Refused 6) x) (cond (ltb (head x .p) (pagesNeeded (head x) (x .table) c)) (did (Refused 8) x) (did Done (densedTo (head x) x (c + 1)))))
     six true q =
         let l = ltb-true (head x .v) (overNeeded (head x) (x .table) c) q in
         let i = over-needed w c far in
@@ -144,7 +146,8 @@ module _ {x : Mem} (w : Follows x) where
   pub prepare-says : (z : ℤ) → SFits w64 z → Prepares x z (prepareBy x z .answer) (prepareBy x z .after)
   unfolding prepareBy
   prepare-says z f =
-      subst (Says x z) (sym (ap (λ (b : Bool). cond b (cond (ranked x) (did (Refused 4) x) (prepareId x z)) (did (Refused 3) x)) (follows-walked w))) (go (ranked x) refl)
+      subst (Says x z)
+      (sym (ap (λ (b : Bool). cond b (cond (ranked x) (did (Refused 4) x) (prepareId x z)) (did (Refused 3) x)) (follows-walked w))) (go (ranked x) refl)
     where
       go : (b : Bool) → ranked x ≡ b → Says x z (cond b (did (Refused 4) x) (prepareId x z))
       go true e = refuses-prepare w z 4 (prepare-ranked z e)

@@ -93,7 +93,8 @@ module _ (x : Mem) (mode : ranked x ≡ false) (c n : ℕ) (le : n ≤ c) (far :
 
   over-at : overflows (head y) onward ≤ head y .v
   over-at =
-      let a : overflows (head y) (denseMap (stateOf x) c) ≤ head y .v = subst (λ (h : Sizes). overflows h (denseMap (stateOf x) c) ≤ h .v) (sym (s .sizes)) over in
+      let a : overflows (head y) (denseMap (stateOf x) c) ≤ head y .v =
+      subst (λ (h : Sizes). overflows h (denseMap (stateOf x) c) ≤ h .v) (sym (s .sizes)) over in
       let b = overflows-le (head y) onward (denseMap (stateOf x) c) (λ i. dense-more x c isPresent refl (onward i) i (past-same i)) in
       omega arith
 
@@ -146,15 +147,15 @@ module _ (x : Mem) (mode : ranked x ≡ false) (c n : ℕ) (le : n ≤ c) (far :
   clear there = free-bits (y .pages) free (head y .p) (wide (head y)) there (w .room .in-pages) (w .free-pages free there (page-owner there))
 
   -- from the place q
-  pub record Into (q : Place) : Type 0 where
+  pub record TakesPage (q : Place) : Type 0 where
     pub there : free < head y .p
     pub page : List ℕ
     pub ok : PagedOk y n q free page
     pub same : (o : ℕ) → isSet page o ≡ offsets (head y) y q o
     pub is : intoPage (head y) y n free q ≡ paged (head y) y n q free page
 
-  pub into : (q : Place) → placeOf (head y) (y .table) n ≡ q → hasPage q ≡ false → Into q
-  into Absent e h =
+  pub takes-page : (q : Place) → placeOf (head y) (y .table) n ≡ q → hasPage q ≡ false → TakesPage q
+  takes-page Absent e h =
       let k = kind-at Absent e in
       let there = page-free absent k refl in
       let page = pagePart (head y) (y .pages) free in
@@ -172,7 +173,7 @@ module _ (x : Mem) (mode : ranked x ≡ false) (c n : ℕ) (le : n ≤ c) (far :
         same = λ o. zero-clear page o (clear there o);
         is = refl;
       }
-  into (Sparse r l) e h =
+  takes-page (Sparse r l) e h =
       let k = kind-at (Sparse r l) e in
       let there = page-free sparse k refl in
       let row = rowPart (head y) (y .rows) r in
@@ -193,17 +194,17 @@ module _ (x : Mem) (mode : ranked x ≡ false) (c n : ℕ) (le : n ≤ c) (far :
         same = set-filled (head y) (w .sizes) blank row l long (clear there) listed;
         is = refl;
       }
-  into (Dense p) e h = absurd (let v : _≡_ {A = ℕ} 0 1 = cc in omega arith)
+  takes-page (Dense p) e h = absurd (let v : _≡_ {A = ℕ} 0 1 = cc in omega arith)
 
-  module _ (q : Place) (is : placeOf (head y) (y .table) n ≡ q) (i : Into q) where
+  module _ (q : Place) (is : placeOf (head y) (y .table) n ≡ q) (i : TakesPage q) where
     abbrev z : Mem
     z = paged (head y) y n q free (i .page)
 
-    pub into-becomes : Becomes y z n (Dense free) (isSet (i .page))
-    into-becomes = paged-becomes y n q free (i .page) (i .ok)
+    pub takes-becomes : Becomes y z n (Dense free) (isSet (i .page))
+    takes-becomes = paged-becomes y n q free (i .page) (i .ok)
 
-    pub into-is : densed (head y) y n ≡ z
-    into-is =
+    pub takes-is : densed (head y) y n ≡ z
+    takes-is =
         ap (λ (b : Bool). cond b (intoPage (head y) y n free (placeOf (head y) (y .table) n)) y) (lt-ltb free (head y .p) (i .there))
         ∙ ap (intoPage (head y) y n free) is ∙ i .is
 
@@ -216,7 +217,7 @@ module _ (x : Mem) (mode : ranked x ≡ false) (c n : ℕ) (le : n ≤ c) (far :
 
     sofar-paged : Sofar x (suc n) z
     sofar-paged =
-        let b = into-becomes in
+        let b = takes-becomes in
         record {
           follows = b .follows;
           sizes = b .head-is ∙ s .sizes;
@@ -235,8 +236,8 @@ module _ (x : Mem) (mode : ranked x ≡ false) (c n : ℕ) (le : n ≤ c) (far :
       either false = refl
 
   at-place : (q : Place) → placeOf (head y) (y .table) n ≡ q → Sofar x (suc n) (densed (head y) y n)
-  at-place Absent e = let i = into Absent e refl in subst (Sofar x (suc n)) (sym (into-is Absent e i)) (sofar-paged Absent e i)
-  at-place (Sparse r l) e = let i = into (Sparse r l) e refl in subst (Sofar x (suc n)) (sym (into-is (Sparse r l) e i)) (sofar-paged (Sparse r l) e i)
+  at-place Absent e = let i = takes-page Absent e refl in subst (Sofar x (suc n)) (sym (takes-is Absent e i)) (sofar-paged Absent e i)
+  at-place (Sparse r l) e = let i = takes-page (Sparse r l) e refl in subst (Sofar x (suc n)) (sym (takes-is (Sparse r l) e i)) (sofar-paged (Sparse r l) e i)
   at-place (Dense p) e = subst (Sofar x (suc n)) (sym (stays p e)) (sofar-dense (kind-at (Dense p) e))
 
   pub sofar-more : Sofar x (suc n) (densed (head y) y n)

@@ -13,13 +13,18 @@ use Rattle.layout.specs.Writes.{putPart}
 use Rattle.steps.proofs.Lent.{span, put-lent}
 
 -- page p with the members of row r
-pub fill-put : (pages rows : List ℕ) (h : Sizes) (r p l i j k : ℕ) → i ≡ r * h .m → j ≡ p * wide h → k ≡ wide h → (ys : List ℕ) → ys ≡ withRow (take (j + k - j) (drop j pages)) 0 (take (i + h .m - i) (drop i rows)) (top h) l → take j pages ++ (ys ++ drop (j + k - j) (drop j pages)) ≡ putPart pages (p * wide h) (wide h) (withRow (pagePart h pages p) 0 (rowPart h rows r) (top h) l)
+pub fill-put : (pages rows : List ℕ) (h : Sizes) (r p l i j k : ℕ) → i ≡ r * h .m → j ≡ p * wide h → k ≡ wide h → (ys : List ℕ)
+    → ys ≡ withRow (take (j + k - j) (drop j pages)) 0 (take (i + h .m - i) (drop i rows)) (top h) l
+    → take j pages ++ (ys ++ drop (j + k - j) (drop j pages))
+    ≡ putPart pages (p * wide h) (wide h) (withRow (pagePart h pages p) 0 (rowPart h rows r) (top h) l)
 fill-put pages rows h r p l i j k ei ej ek ys f =
     put-lent pages j k (p * wide h) (wide h) ej ek (λ (w : List ℕ). withRow w 0 (take (i + h .m - i) (drop i rows)) (top h) l) ys f
     ∙ ap (λ (row : List ℕ). putPart pages (p * wide h) (wide h) (withRow (pagePart h pages p) 0 row (top h) l))
     (ap (λ (n : ℕ). take n (drop i rows)) (span i (h .m)) ∙ ap (λ (n : ℕ). take (h .m) (drop n rows)) ei)
 
 -- a part put back where it was
-pub put-same : (xs : List ℕ) (a n : ℕ) → putPart xs a n (take n (drop a xs)) ≡ xs
+pub put-back : (xs : List ℕ) (a n : ℕ) → putPart xs a n (take n (drop a xs)) ≡ xs
 unfolding putPart
-put-same xs a n = ap (λ (u : List ℕ). take a xs ++ (take n (drop a xs) ++ u)) (sym (drop-drop n a xs)) ∙ ap (λ (u : List ℕ). take a xs ++ u) (take-append-drop n (drop a xs)) ∙ take-append-drop a xs
+put-back xs a n =
+    ap (λ (u : List ℕ). take a xs ++ (take n (drop a xs) ++ u)) (sym (drop-drop n a xs))
+    ∙ ap (λ (u : List ℕ). take a xs ++ u) (take-append-drop n (drop a xs)) ∙ take-append-drop a xs

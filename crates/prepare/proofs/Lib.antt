@@ -1,6 +1,7 @@
 pub mod Fills
-pub mod Turns
+pub mod ChunkTurn
 pub mod Spares
 pub mod Walks
+pub mod Cursor
 pub mod Steady
-pub mod Plans
+pub mod PreparePlans

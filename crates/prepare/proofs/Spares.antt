@@ -72,14 +72,14 @@ past-rest f N K c l low =
 
 -- ---- entries of chunks past c
 
-abbrev pub above : Sizes → List ℕ → ℕ → ℕ
-above h t c = count (λ (e : ℕ). ltb c (chunkAt h t e)) (entries h t)
+abbrev pub entriesPast : Sizes → List ℕ → ℕ → ℕ
+entriesPast h t c = count (λ (e : ℕ). ltb c (chunkAt h t e)) (entries h t)
 
 module _ (h : Sizes) (t : List ℕ) (o : Ordered h t) (c : ℕ) where
   -- what was judged
-  pub above-fits : overCount t ≤ h .v → overNeeded h t c ≤ h .v → above h t c + (c + 1) ≤ h .d + h .v
+  pub past-fits : overCount t ≤ h .v → overNeeded h t c ≤ h .v → entriesPast h t c + (c + 1) ≤ h .d + h .v
   unfolding overNeeded
-  above-fits fits need = go (ltb c (h .d)) refl
+  past-fits fits need = go (ltb c (h .d)) refl
     where
       key : ℕ → ℕ
       key = λ (j : ℕ). getD t (overAt h j) 0
@@ -94,7 +94,7 @@ module _ (h : Sizes) (t : List ℕ) (o : Ordered h t) (c : ℕ) where
       early m e l (direct a) = let q = chunk-direct h t e a in omega arith
       early m e l (over j i) = let q = ap (chunkAt h t) i ∙ chunk-over h t j in let b = cut .before j (omega arith) in omega arith
 
-      go : (b : Bool) → ltb c (h .d) ≡ b → above h t c + (c + 1) ≤ h .d + h .v
+      go : (b : Bool) → ltb c (h .d) ≡ b → entriesPast h t c + (c + 1) ≤ h .d + h .v
       go true q =
           let l = ltb-true c (h .d) q in
           let r = past-rest (chunkAt h t) (entries h t) (c + 1) c (omega arith) (λ e m. (let i = chunk-direct h t e (omega arith) in omega arith)) in
@@ -105,13 +105,13 @@ module _ (h : Sizes) (t : List ℕ) (o : Ordered h t) (c : ℕ) where
           let r = past-rest (chunkAt h t) (entries h t) (h .d + k) c (omega arith) (λ e m. early l e m (which (h .d) e)) in
           omega arith
 
-  pub spare-left : (n : ℕ) → n ≤ c → above h t c + (c + 1) ≤ h .d + h .v → ((e : ℕ) → e < entries h t → chunkAt h t e ≢ n) → overCount t < h .v
+  pub spare-left : (n : ℕ) → n ≤ c → entriesPast h t c + (c + 1) ≤ h .d + h .v → ((e : ℕ) → e < entries h t → chunkAt h t e ≢ n) → overCount t < h .v
   spare-left n l fits none = let r = few (chunkAt h t) (entries h t) n c (chunk-rising h t o) none l (entries h t) (omega arith) in omega arith
 
   -- a word for a chunk up to c changes nothing past it
-  pub above-kept : (t′ : List ℕ) (n w : ℕ) → n ≤ c → Wrote h t t′ n w → above h t′ c ≡ above h t c
+  pub past-kept : (t′ : List ℕ) (n w : ℕ) → n ≤ c → Wrote h t t′ n w → entriesPast h t′ c ≡ entriesPast h t c
   unfolding count
-  above-kept t′ n w l s =
+  past-kept t′ n w l s =
       let z : boolByte (ltb c n) ≡ 0 = ap boolByte (le-ltb c n l) in
       let r = put-sum (runOf h t) (runOf h t′) n w (chunk-rising h t o) (λ (i v : ℕ). boolByte (ltb c i)) z (s .put) in
       omega arith

@@ -29,7 +29,8 @@ use Rattle.steps.proofs.Words.{put-word}
 
 module _ (h : Sizes) (x : Mem) (W : Walked x h) (n : ℕ) (far : n < lastChunk h)
     (spare : ((e : ℕ) → e < entries h (x .table) → chunkAt h (x .table) e ≢ n) → overCount (x .table) < h .v)
-    (old : Place) (is : placeOf h (x .table) n ≡ old) (p : ℕ) (there : p < h .p) (free : pageOwner h (x .table) p ≡ 0) (page : List ℕ) (long : length page ≡ wide h) where
+    (old : Place) (is : placeOf h (x .table) n ≡ old) (p : ℕ) (there : p < h .p) (free : pageOwner h (x .table) p ≡ 0)
+    (page : List ℕ) (long : length page ≡ wide h) where
   abbrev t : List ℕ
   t = x .table
 
@@ -54,12 +55,15 @@ module _ (h : Sizes) (x : Mem) (W : Walked x h) (n : ℕ) (far : n < lastChunk h
 
   left-long : (q : Place) → Owned h t n q → length (leftRow h (x .rows) q) ≡ length (x .rows)
   left-long Absent o = refl
-  left-long (Sparse r l) o = length-put (x .rows) (r * h .m) (h .m) _ (length-replicate (h .m) _) (slot-in (h .m) (h .r) r (length (x .rows)) (o .there) (W .room .in-rows))
+  left-long (Sparse r l) o =
+      length-put (x .rows) (r * h .m) (h .m) _ (length-replicate (h .m) _) (slot-in (h .m) (h .r) r (length (x .rows)) (o .there) (W .room .in-rows))
   left-long (Dense j) o = refl
 
   left-page : (q : Place) → Owned h t n q → (j : ℕ) → pageOwner h (leftOwner h u q) j ≡ pageOwner h t j
   left-page Absent o j = worded .owners (pageOwnersAt h + j) (omega arith)
-  left-page (Sparse r l) o j = let k = o .there in getD-set-other u (rowOwnersAt h + r) (pageOwnersAt h + j) 0 0 (omega arith) ∙ worded .owners (pageOwnersAt h + j) (omega arith)
+  left-page (Sparse r l) o j =
+      let k = o .there in
+      getD-set-other u (rowOwnersAt h + r) (pageOwnersAt h + j) 0 0 (omega arith) ∙ worded .owners (pageOwnersAt h + j) (omega arith)
   left-page (Dense i) o j = worded .owners (pageOwnersAt h + j) (omega arith)
 
   -- the row is no other chunk's
@@ -114,7 +118,8 @@ module _ (h : Sizes) (x : Mem) (W : Walked x h) (n : ℕ) (far : n < lastChunk h
   up-after : Rising (chunkAt h t′) (entries h t′)
   up-after = put-rising (runOf h t) (runOf h t′) n w up (wrote .put)
 
-  every : (P : ℕ → ℕ → Type 0) → ((j : ℕ) → j < entries h t → chunkAt h t j ≢ n → P (chunkAt h t j) (wordAt h t j)) → P n w → (j : ℕ) → j < entries h t′ → P (chunkAt h t′ j) (wordAt h t′ j)
+  every : (P : ℕ → ℕ → Type 0) → ((j : ℕ) → j < entries h t → chunkAt h t j ≢ n → P (chunkAt h t j) (wordAt h t j)) → P n w
+      → (j : ℕ) → j < entries h t′ → P (chunkAt h t′ j) (wordAt h t′ j)
   every P = put-all (runOf h t) (runOf h t′) n w up P (wrote .put)
 
   rises : (e : ℕ) → e < entries h t′ → e ≤ chunkAt h t′ e
@@ -137,6 +142,11 @@ module _ (h : Sizes) (x : Mem) (W : Walked x h) (n : ℕ) (far : n < lastChunk h
   unfolding paged
   paged-wrote = wrote
 
+  -- every other page has the owner that it had
+  pub paged-owner : (j : ℕ) → j ≢ p → pageOwner h (paged h x n old p page .table) j ≡ pageOwner h (x .table) j
+  unfolding paged
+  paged-owner j d = getD-set-other (leftOwner h u old) (pageOwnersAt h + p) (pageOwnersAt h + j) (n + 1) 0 (omega arith) ∙ left-page old mine j
+
   pub paged-walked : Walked (paged h x n old p page) h
   unfolding paged
   paged-walked =
@@ -144,7 +154,11 @@ module _ (h : Sizes) (x : Mem) (W : Walked x h) (n : ℕ) (far : n < lastChunk h
         sizes = W .sizes;
         room =
             record {
-              in-pages = let a = W .room .in-pages in let b = length-put (x .pages) (p * wide h) (wide h) page long (slot-in (wide h) (h .p) p (length (x .pages)) there (W .room .in-pages)) in omega arith;
+              in-pages =
+                  let a = W .room .in-pages in
+                  let s = slot-in (wide h) (h .p) p (length (x .pages)) there (W .room .in-pages) in
+                  let b = length-put (x .pages) (p * wide h) (wide h) page long s in
+                  omega arith;
               in-rows = let a = W .room .in-rows in let b = left-long old mine in omega arith;
               in-blocks = W .room .in-blocks;
               in-table = let a = W .room .in-table in let b = wrote .len in omega arith;

@@ -1,18 +1,18 @@
 -- What the loop and each of its turns ask for: parts of the pools that lie inside them.
+use mathlib.Core.Path.{_≡_}
 use mathlib.Core.List.{List}
 use Prim.Native.Nat.{ℕ, _*_, _^_, _≤_, _<_}
 use lib.ListN.{length}
 use Rattle.layout.specs.Mem.{mem}
 use Rattle.document.specs.Sizes.{InRange}
 use Rattle.layout.specs.Sizes.{wide, blocksOf, headerAt, overCount}
-use Rattle.layout.specs.Places.{decoded}
+use Rattle.layout.specs.Entries.{wordOf, placeOf}
 use Rattle.layout.specs.Short.{wordIn}
 use Rattle.layout.specs.Tests.{Walked}
 use Rattle.document.specs.declared.sizes.Sizes.{Sizes}
 use Rattle.layout.specs.declared.place.Place.{Place}
 use Rattle.layout.specs.declared.place.Place.the-variants.{Absent, Sparse, Dense}
-use Rattle.layout.specs.declared.find.Word.{Word}
-use Rattle.layout.specs.declared.find.Word.the-variants as word
+use Rattle.layout.specs.declared.find.Word.the-variants.{Is}
 
 -- the table passes the walk, beside block counts that are long enough
 abbrev pub Sound : List ℕ → List ℕ → List ℕ → Type 0
@@ -32,15 +32,12 @@ RowInside h Absent = Unit
 RowInside h (Sparse r l) = (r < h .r) × (l ≤ h .m)
 RowInside h (Dense p) = Unit
 
-abbrev pub WordInside : Sizes → Word → Type 0
-WordInside h (word.Is w) = RowInside h (decoded w)
-WordInside h word.Bad = Unit
-
--- chunk c's turn
+-- chunk c's turn: it has one word, and a row that it names lies inside its pool
 pub record Turnable (h : Sizes) (pages rows t : List ℕ) (c : ℕ) : Type 0 where
   pub sizes : InRange h
   pub in-pages : h .p * wide h ≤ length pages
   pub in-rows : h .r * h .m ≤ length rows
   pub over : overCount t ≤ 65536
   pub chunk : c < 2 ^ 62
-  pub word : WordInside h (wordIn t c)
+  pub word : wordIn t c ≡ Is (wordOf h t c)
+  pub row : RowInside h (placeOf h t c)

@@ -9,7 +9,7 @@ ghost use Rattle.layout.specs.Sizes.{overCount};
 ghost use Rattle.layout.specs.Places.{hasPage};
 ghost use Rattle.layout.specs.Entries.{chunkAt, placeAt};
 ghost use Rattle.calls.specs.Prepare.{overNeeded, pagesNeeded};
-ghost use Rattle.prepare.specs.Plans.{planTo, planPrepare};
+ghost use Rattle.prepare.specs.PreparePlan.{planTo, planPrepare};
 use document::sizes::Sizes;
 use layout::entry;
 use layout::find;
@@ -22,7 +22,7 @@ use numbers::order;
 use numbers::place as element;
 
 // A refusal, nothing for a negative maximum, or chunks 0 to c to make dense.
-pub enum Plan {
+pub enum Preparation {
     Refuse(u64),
     Nothing,
     Make(u64),
@@ -72,32 +72,38 @@ pub fn over_needed(table: &[u64], h: Sizes, c: u64) -> u64
 }
 
 // 6 before 8, and no loop before 6: however large the maximum is, it is answered at once.
-pub fn judge(table: &[u64], h: Sizes, c: u64) -> Plan
+pub fn judge(table: &[u64], h: Sizes, c: u64) -> Preparation
     requires { ⌜ InRange h × (overCount (now table) ≤ 65536) × (c < 2 ^ 62) ⌝ }
     ensures { λ q. ⌜ q ≡ planTo h (now (table .entry)) c ⌝ }
 {
     if h.v < over_needed(table, h, c) {
-        return Plan::Refuse(6);
+        return Preparation::Refuse(6);
     }
     if h.p < pages_needed(table, h, c) {
-        return Plan::Refuse(8);
+        return Preparation::Refuse(8);
     }
-    Plan::Make(c)
+    Preparation::Make(c)
 }
 
 // 3 for a table that fails the walk, 4 for a ranked set, then the maximum.
-pub fn plan_for(pages: &[u64], rows: &[u32], blocks: &[u32], table: &[u64], max_id: i64) -> Plan
+pub fn plan_for(
+    pages: &[u64],
+    rows: &[u32],
+    blocks: &[u32],
+    table: &[u64],
+    max_id: i64,
+) -> Preparation
     ensures { λ q. ⌜ q ≡ planPrepare (memOf (pages .entry) (rows .entry) (blocks .entry) (table .entry)) «max_id» ⌝ }
 {
     if !walk::walk(pages, rows, blocks, table) {
-        return Plan::Refuse(3);
+        return Preparation::Refuse(3);
     }
     if element::at(table, 6) == 1 {
-        return Plan::Refuse(4);
+        return Preparation::Refuse(4);
     }
     let h = head::read(table);
     let Natural::At(c) = ids::chunk_of(max_id, h.s) else {
-        return Plan::Nothing;
+        return Preparation::Nothing;
     };
     judge(table, h, c)
 }

@@ -8,10 +8,9 @@ ghost use Rattle.layout.specs.Mem.{mem};
 ghost use Rattle.document.specs.Sizes.{InRange, top};
 ghost use Rattle.layout.specs.Sizes.{wide, headerAt, overCount};
 ghost use Rattle.layout.specs.Places.{encoded, rowPart, pagePart};
-ghost use Rattle.layout.specs.Short.{wordIn};
-ghost use Rattle.layout.specs.declared.place.Place.the-variants.{Absent, Sparse, Dense};
+ghost use Rattle.layout.specs.declared.place.Place.the-variants.{Sparse, Dense};
 ghost use Rattle.layout.specs.Writes.{putPart, putWord, putPageOwner};
-ghost use Rattle.calls.specs.Prepare.{work, densed, densedWord, densedTo, overNeeded};
+ghost use Rattle.calls.specs.Prepare.{intoPage, densedIn, densedTo, overNeeded};
 ghost use Rattle.prepare.specs.Ready.{Sound, Fillable, Turnable};
 use document::sizes::Sizes;
 use layout::find;
@@ -27,7 +26,8 @@ use steps::turn;
 // Page p gets the l members of row r.
 pub fn fill_page(pages: &mut [u64], rows: &[u32], h: Sizes, r: u64, l: usize, p: u64)
     requires { ⌜ Fillable h (length (now pages)) (length (now rows)) r l × (p < h .p) ⌝ }
-    ensures { λ _. ⌜ now (pages .exit) ≡ putPart (now (pages .entry)) (p * wide h) (wide h) (withRow (pagePart h (now (pages .entry)) p) 0 (rowPart h (now (rows .entry)) r) (top h) l) ⌝ }
+    ensures { λ _. ⌜ now (pages .exit) ≡ putPart (now (pages .entry)) (p * wide h) (wide h)
+        (withRow (pagePart h (now (pages .entry)) p) 0 (rowPart h (now (rows .entry)) r) (top h) l) ⌝ }
 {
     let s = h.s;
     let a = head::row_at(h, r) as usize;
@@ -46,21 +46,8 @@ pub fn enter_page(table: &mut [u64], h: Sizes, c: u64, p: u64)
     write::put_page_owner(table, h, p, c + 1);
 }
 
-// An absent chunk: the page that it gets is left as it is. Pages are only taken, so that those before `next` stay taken.
-pub fn absent_to(table: &mut [u64], h: Sizes, c: u64, next: u64) -> u64
-    requires { ⌜ InRange h × (overCount (now table) ≤ 65536) × (c < 2 ^ 62) × (next ≤ 65536) ⌝ }
-    ensures { λ k. ⌜ ((ps rs bs : List ℕ) → work (mem ps rs bs (now (table .exit))) k ≡ densed h (work (mem ps rs bs (now (table .entry))) next) c Absent) × (k ≤ 65536) ⌝ }
-{
-    let p = owners::next_page(table, h, next);
-    if h.p <= p {
-        return next;
-    }
-    enter_page(table, h, c, p);
-    p + 1
-}
-
-// A sparse chunk: its members go from the row to the page, and the row is free again.
-pub fn sparse_to(
+// Chunk c, until now the l members of row r, stands in page p, and the row is free again.
+pub fn turn_row(
     pages: &mut [u64],
     rows: &mut [u32],
     table: &mut [u64],
@@ -68,53 +55,48 @@ pub fn sparse_to(
     c: u64,
     r: u64,
     l: u64,
-    next: u64,
-) -> u64
-    requires { ⌜ Fillable h (length (now pages)) (length (now rows)) r l × (overCount (now table) ≤ 65536) × (c < 2 ^ 62) × (next ≤ 65536) ⌝ }
-    ensures { λ k. ⌜ ((bs : List ℕ) → work (mem (now (pages .exit)) (now (rows .exit)) bs (now (table .exit))) k ≡ densed h (work (mem (now (pages .entry)) (now (rows .entry)) bs (now (table .entry))) next) c (Sparse r l)) × (k ≤ 65536) ⌝ }
+    p: u64,
+)
+    requires { ⌜ Fillable h (length (now pages)) (length (now rows)) r l × (p < h .p) × (overCount (now table) ≤ 65536) × (c < 2 ^ 62) ⌝ }
+    ensures { λ _. ⌜ ((bs : List ℕ) → mem (now (pages .exit)) (now (rows .exit)) bs (now (table .exit))
+        ≡ intoPage h (mem (now (pages .entry)) (now (rows .entry)) bs (now (table .entry))) c p (Sparse r l)) ⌝ }
 {
-    let p = owners::next_page(table, h, next);
-    if h.p <= p {
-        return next;
-    }
     fill_page(pages, rows, h, r, l as usize, p);
     turn::free_row(rows, h, r);
     turn::turn_entry(table, h, c, r, p);
-    p + 1
 }
 
-// Chunk c becomes dense, unless it is already.
-pub fn make_dense(
-    pages: &mut [u64],
-    rows: &mut [u32],
-    table: &mut [u64],
-    h: Sizes,
-    c: u64,
-    next: u64,
-) -> u64
-    requires { ⌜ Turnable h (now pages) (now rows) (now table) c × (next ≤ 65536) ⌝ }
-    ensures { λ k. ⌜ ((bs : List ℕ) → work (mem (now (pages .exit)) (now (rows .exit)) bs (now (table .exit))) k ≡ densedWord h (work (mem (now (pages .entry)) (now (rows .entry)) bs (now (table .entry))) next) c (wordIn (now (table .entry)) c)) × (k ≤ 65536) ⌝ }
+// Chunk c becomes dense in page p, unless it is dense already or there is no page p.
+pub fn make_dense(pages: &mut [u64], rows: &mut [u32], table: &mut [u64], h: Sizes, c: u64, p: u64)
+    requires { ⌜ Turnable h (now pages) (now rows) (now table) c ⌝ }
+    ensures { λ _. ⌜ ((bs : List ℕ) → mem (now (pages .exit)) (now (rows .exit)) bs (now (table .exit))
+        ≡ densedIn h (mem (now (pages .entry)) (now (rows .entry)) bs (now (table .entry))) c p) ⌝ }
 {
+    if h.p <= p {
+        return;
+    }
     let Word::Is(w) = find::word_of(table, c) else {
-        return next;
+        return;
     };
     match place::decode(w) {
-        Place::Absent => absent_to(table, h, c, next),
-        Place::Sparse(r, l) => sparse_to(pages, rows, table, h, c, r, l, next),
-        Place::Dense(_) => next,
+        Place::Absent => enter_page(table, h, c, p),
+        Place::Sparse(r, l) => turn_row(pages, rows, table, h, c, r, l, p),
+        Place::Dense(_) => {}
     }
 }
 
-// Chunks 0 to c become dense, in rising order, whatever the block counts are.
+// Chunks 0 to c become dense, in rising order, whatever the block counts are. Pages are only taken, so that none below p is free again.
 pub fn make_all(pages: &mut [u64], rows: &mut [u32], table: &mut [u64], c: u64)
     requires { ⌜ Sound (now pages) (now rows) (now table) × (overNeeded (headerAt (now table)) (now table) c ≤ headerAt (now table) .v) ⌝ }
-    ensures { λ _. ⌜ ((bs : List ℕ) → mem (now (pages .exit)) (now (rows .exit)) bs (now (table .exit)) ≡ densedTo (headerAt (now (table .entry))) (work (mem (now (pages .entry)) (now (rows .entry)) bs (now (table .entry))) 0) (c + 1) .mem) ⌝ }
+    ensures { λ _. ⌜ ((bs : List ℕ) → mem (now (pages .exit)) (now (rows .exit)) bs (now (table .exit))
+        ≡ densedTo (headerAt (now (table .entry))) (mem (now (pages .entry)) (now (rows .entry)) bs (now (table .entry))) (c + 1)) ⌝ }
 {
     let h = head::read(table);
-    let mut next: u64 = 0;
+    let mut p = owners::free_page(table, h);
     let mut i: u64 = 0;
     while i <= c {
-        next = make_dense(pages, rows, table, h, i, next);
+        make_dense(pages, rows, table, h, i, p);
+        p = owners::next_page(table, h, p);
         i += 1;
     }
 }

@@ -1,5 +1,5 @@
 -- Two tests of one entry. Assumes nothing.
-use Rattle.prepare.proofs.Plans.{past-is}
+use Rattle.prepare.proofs.PreparePlans.{past-is}
 use borrow.Author.Needs.{needs}
 use Rattle.prepare.proofs.plan.dense_past.Statement.{statement}
 use Rattle.prepare.proofs.plan.dense_past.Tie as tie
@@ -14,7 +14,9 @@ is-dense-requires : tie.Need-is-dense-requires
 is-dense-requires c κs = search needs
 
 returns : tie.Need-returns
-returns c = let a = c .before .before .before .before .args in past-is (a .h) (a .table .now) (a .c) (a .e) _ _ _ (c .before .before .chunk-at .ensures) (c .before .place-at .ensures) (c .is-dense .ensures)
+returns c =
+    let a = c .before .before .before .before .args in
+    past-is (a .h) (a .table .now) (a .c) (a .e) _ _ _ (c .before .before .chunk-at .ensures) (c .before .place-at .ensures) (c .is-dense .ensures)
 
 pub dense-past-spec : {M : Type 1} → statement M
 dense-past-spec =

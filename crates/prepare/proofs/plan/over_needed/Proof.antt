@@ -1,5 +1,5 @@
 -- The entries past c, and those from D to c. Assumes nothing.
-use Rattle.prepare.proofs.Plans.{over-is}
+use Rattle.prepare.proofs.PreparePlans.{over-is}
 use borrow.Author.Needs.{needs}
 use Rattle.prepare.proofs.plan.over_needed.Statement.{statement}
 use Rattle.prepare.proofs.plan.over_needed.Tie as tie
@@ -26,7 +26,9 @@ add-result : tie.Need-add-result
 add-result c = search needs
 
 returns : tie.Need-returns
-returns c = let a = c .before .before .before .before .args in over-is (a .h) (a .table .now) (a .c) _ _ _ (c .before .before .at .ensures) (c .before .over-below .ensures .0) (c .minus .ensures)
+returns c =
+    let a = c .before .before .before .before .args in
+    over-is (a .h) (a .table .now) (a .c) _ _ _ (c .before .before .at .ensures) (c .before .over-below .ensures .0) (c .minus .ensures)
 
 pub over-needed-spec : {M : Type 1} → statement M
 over-needed-spec =

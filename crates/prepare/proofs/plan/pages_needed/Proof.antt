@@ -5,7 +5,7 @@ use Prim.Native.Nat.{_-_, _≤_}
 use native.Mathlib.Omega.{arith}
 use Rattle.sums.specs.Ids.{count}
 use Rattle.sums.proofs.Counts.{byte-le, count-zero}
-use Rattle.prepare.proofs.Plans.{densePast, past-more, pages-are}
+use Rattle.prepare.proofs.PreparePlans.{densePast, past-more, pages-are}
 use Rattle.prepare.proofs.plan.pages_needed.Statement.{statement}
 use Rattle.prepare.proofs.plan.pages_needed.Tie as tie
 
@@ -25,7 +25,9 @@ loop-holds : tie.Need-loop-holds Inv-loop μ-loop
 loop-holds c = (omega arith, omega arith, sym (count-zero _))
 
 dense-past-requires : tie.Need-dense-past-requires Inv-loop μ-loop
-dense-past-requires c κs = let a = c .before .before .before .before .before in (a .pre .0, omega (arith, a .pre .0, a .pre .1, c .before .before .before .at .ensures))
+dense-past-requires c κs =
+    let a = c .before .before .before .before .before in
+    (a .pre .0, omega (arith, a .pre .0, a .pre .1, c .before .before .before .at .ensures))
 
 cast-k : tie.Need-cast-k Inv-loop μ-loop
 cast-k c = search needs
@@ -40,7 +42,13 @@ loop-less : tie.Need-loop-less Inv-loop μ-loop
 loop-less c = omega arith
 
 loop-again : tie.Need-loop-again Inv-loop μ-loop
-loop-again c = let a = c .before .before .before .before .before .before .args in let l = c .before .before .loop in (omega arith, omega (arith, byte-le (c .dense-past .result)), past-more (a .h) (a .table .now) (a .c) (l .e) _ _ (l .inv .2) (c .dense-past .ensures))
+loop-again c =
+    let a = c .before .before .before .before .before .before .args in
+    let l = c .before .before .loop in (
+      omega arith,
+      omega (arith, byte-le (c .dense-past .result)),
+      past-more (a .h) (a .table .now) (a .c) (l .e) _ _ (l .inv .2) (c .dense-past .ensures),
+    )
 
 add-result : tie.Need-add-result Inv-loop μ-loop
 add-result c = search needs
@@ -49,7 +57,10 @@ add-result-2 : tie.Need-add-result-2 Inv-loop μ-loop
 add-result-2 c = omega arith
 
 returns : tie.Need-returns Inv-loop μ-loop
-returns c = let a = c .before .before .before .before .before .args in let l = c .before .loop in pages-are (a .h) (a .table .now) (a .c) _ (l .e) (l .inv .2) (omega (arith, c .before .before .before .at .ensures))
+returns c =
+    let a = c .before .before .before .before .before .args in
+    let l = c .before .loop in
+    pages-are (a .h) (a .table .now) (a .c) _ (l .e) (l .inv .2) (omega (arith, c .before .before .before .at .ensures))
 
 pub pages-needed-spec : {M : Type 1} → statement M
 pages-needed-spec =

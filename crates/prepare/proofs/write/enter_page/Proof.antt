@@ -23,7 +23,12 @@ same-length : tie.Need-same-length
 same-length c = search needs
 
 returns : tie.Need-returns
-returns c = let a = c .before .before .before .before .before .before .before .before .before .before .args in c .before .before .put-page-owner .ensures ∙ ap (λ (u : List ℕ). putPageOwner (a .h) u (a .p) (a .c + 1)) (c .before .before .before .before .before .before .put-word .ensures ∙ ap (putWord (a .h) (a .table .now) (a .c)) (c .before .before .before .before .before .before .before .page-word .ensures))
+returns c =
+    let a = c .before .before .before .before .before .before .before .before .before .before .args in
+    let w = c .before .before .before .before .before .before in
+    c .before .before .put-page-owner .ensures
+    ∙ ap (λ (u : List ℕ). putPageOwner (a .h) u (a .p) (a .c + 1))
+    (w .put-word .ensures ∙ ap (putWord (a .h) (a .table .now) (a .c)) (w .before .page-word .ensures))
 
 pub enter-page-spec : {M : Type 1} → statement M
 enter-page-spec =

@@ -1,5 +1,6 @@
 -- The page as a part of the pool, the row as a part of its own. Assumes nothing.
-use Prim.Native.Nat.{_+_, _-_, _*_, _≤_, _<_}
+use mathlib.Core.List.{List}
+use Prim.Native.Nat.{ℕ, _+_, _-_, _*_, _≤_, _<_}
 use native.Mathlib.Omega.{arith}
 use lib.ListN.{length, take, drop}
 use Rattle.numbers.proofs.Powers.{powers}
@@ -12,20 +13,37 @@ use borrow.Author.Needs.{needs}
 use Rattle.prepare.proofs.write.fill_page.Statement.{statement}
 use Rattle.prepare.proofs.write.fill_page.Tie as tie
 
-row-in : (c : tie.After-row-at) → c .row-at .result + c .before .before .before .args .h .m ≤ length (c .before .before .before .args .rows .now)
-row-in c = let a = c .before .before .before in omega (arith, c .row-at .ensures, slot-in (a .args .h .m) (a .args .h .r) (a .args .r) (length (a .args .rows .now)) (a .pre .0 .row) (a .pre .0 .in-rows))
+abbrev start : tie.After-row-at → tie.Start
+start r = r .before .before .before
 
-page-in : (c : tie.After-pow2) → c .before .page-at .result + c .pow2 .result ≤ length (c .before .before .before .before .before .args .pages .now)
-page-in c = let a = c .before .before .before .before .before in omega (arith, c .before .page-at .ensures, c .pow2 .ensures, slot-in (wide (a .args .h)) (a .args .h .p) (a .args .p) (length (a .args .pages .now)) (a .pre .1) (a .pre .0 .in-pages))
+row-in : (r : tie.After-row-at) → r .row-at .result + start r .args .h .m ≤ length (start r .args .rows .now)
+row-in r =
+    let a = start r in
+    let g = a .args in
+    omega (arith, r .row-at .ensures, slot-in (g .h .m) (g .h .r) (g .r) (length (g .rows .now)) (a .pre .0 .row) (a .pre .0 .in-rows))
 
-filled : (c : tie.After-write-row-arg2) → (c .before .before .before .before .before .before .before .args .l ≤ length (take (c .before .before .before .before .row-at .result + c .before .before .before .before .before .before .before .args .h .m - c .before .before .before .before .row-at .result) (drop (c .before .before .before .before .row-at .result) (c .before .before .before .before .before .before .before .args .rows .now)))) × (c .before .before .before .before .before .before .before .args .h .s < 64) × (top (c .before .before .before .before .before .before .before .args .h) ≤ 64 * length (take (c .before .before .before .page-at .result + c .before .before .pow2 .result - c .before .before .before .page-at .result) (drop (c .before .before .before .page-at .result) (c .before .before .before .before .before .before .before .args .pages .now))))
-filled c =
-    let a = c .before .before .before .before .before .before .before in
+page-in : (w : tie.After-pow2) → w .before .page-at .result + w .pow2 .result ≤ length (start (w .before .before) .args .pages .now)
+page-in w =
+    let a = start (w .before .before) in
+    let g = a .args in
+    let s = slot-in (wide (g .h)) (g .h .p) (g .p) (length (g .pages .now)) (a .pre .1) (a .pre .0 .in-pages) in
+    omega (arith, w .before .page-at .ensures, w .pow2 .ensures)
+
+-- the n elements from i on, as they are lent
+abbrev lent : List ℕ → ℕ → ℕ → List ℕ
+lent xs i n = take (i + n - i) (drop i xs)
+
+filled : (w : tie.After-pow2) → let g = start (w .before .before) .args in
+    (g .l ≤ length (lent (g .rows .now) (w .before .before .row-at .result) (g .h .m))) × (g .h .s < 64)
+    × (top (g .h) ≤ 64 * length (lent (g .pages .now) (w .before .page-at .result) (w .pow2 .result)))
+filled w =
+    let r = w .before .before in
+    let a = start r in
     let i = a .pre .0 .sizes in
     let p = powers (a .args .h .s) (i .s-low) (i .s-high) in
-    let u = length-lent (a .args .rows .now) (c .before .before .before .before .row-at .result) (a .args .h .m) (row-in (c .before .before .before .before)) in
-    let v = length-lent (a .args .pages .now) (c .before .before .before .page-at .result) (c .before .before .pow2 .result) (page-in (c .before .before)) in
-    let e = c .before .before .pow2 .ensures in
+    let u = length-lent (a .args .rows .now) (r .row-at .result) (a .args .h .m) (row-in r) in
+    let v = length-lent (a .args .pages .now) (w .before .page-at .result) (w .pow2 .result) (page-in w) in
+    let e = w .pow2 .ensures in
     (omega (arith, a .pre .0 .members), omega (arith, i .s-high), omega (arith, p .words))
 
 row-at-requires : tie.Need-row-at-requires
@@ -71,13 +89,18 @@ part-write-row-end-2 : tie.Need-part-write-row-end-2
 part-write-row-end-2 c = row-in (c .before .before .before)
 
 write-row-requires : tie.Need-write-row-requires
-write-row-requires c κs = filled c
+write-row-requires c κs = filled (c .before .before)
 
 same-length : tie.Need-same-length
 same-length c = search needs
 
 returns : tie.Need-returns
-returns c = let a = c .before .before .before .before .before .before .before .before .before .before .args in fill-put (a .pages .now) (a .rows .now) (a .h) (a .r) (a .p) (a .l) _ _ _ (c .before .before .before .before .before .before .before .row-at .ensures) (c .before .before .before .before .before .before .page-at .ensures) (c .before .before .before .before .before .pow2 .ensures) _ (c .before .before .write-row .ensures)
+returns c =
+    let w = c .before .before .before .before .before in
+    let r = w .before .before in
+    let g = start r .args in
+    fill-put (g .pages .now) (g .rows .now) (g .h) (g .r) (g .p) (g .l) _ _ _ (r .row-at .ensures) (w .before .page-at .ensures) (w .pow2 .ensures) _
+    (c .before .before .write-row .ensures)
 
 pub fill-page-spec : {M : Type 1} → statement M
 fill-page-spec =

@@ -1,4 +1,4 @@
--- What the plan says, way by way, and that carrying it out is `pre_allocate`. Assumes nothing.
+-- What the plan prepare-does, way by way, and that carrying it out is `pre_allocate`. Assumes nothing.
 use mathlib.Core.Path.{_≡_, refl, sym, _∙_, ap, ap₂, subst}
 use mathlib.Core.List.{List}
 use mathlib.Core.Bool.{Bool, true, false, cond, _&&_}
@@ -25,21 +25,20 @@ use Rattle.layout.specs.Entries.{entries, chunkAt, placeAt}
 use Rattle.layout.specs.Short.{overPlace}
 use Rattle.layout.specs.Tests.{Walked, walked}
 use Rattle.layout.specs.SetUp.{Did, did}
-use Rattle.layout.specs.Follows.{Follows}
 use Rattle.document.specs.declared.sizes.Sizes.{Sizes}
 use Rattle.layout.specs.declared.place.Place.{Place}
 use Rattle.document.specs.declared.answer.Outcome.{Outcome}
 use Rattle.document.specs.declared.answer.Outcome.the-variants.{Done, Refused}
 use Rattle.layout.proofs.Tests.{walked-of}
-use Rattle.calls.specs.Prepare.{work, densedTo, overNeeded, pagesNeeded, prepareId, prepareBy}
+use Rattle.calls.specs.Prepare.{densedTo, overNeeded, pagesNeeded, prepareId, prepareBy}
 use Rattle.document.specs.Calls.{prepare, that}
 use Rattle.contracts.specs.Runs.{byOutcome}
 use Rattle.contracts.specs.Does.{Does}
 use Rattle.contracts.proofs.Steps.{does}
-use Rattle.prepare.specs.Plans.{planTo, planId, planPrepare}
+use Rattle.prepare.specs.PreparePlan.{planTo, planId, planPrepare}
 use Rattle.prepare.specs.Ready.{Sound}
-use Rattle.prepare.specs.declared.plan.Plan.{Plan}
-use Rattle.prepare.specs.declared.plan.Plan.the-variants.{Refuse, Nothing, Make}
+use Rattle.prepare.specs.declared.plan.Preparation.{Preparation}
+use Rattle.prepare.specs.declared.plan.Preparation.the-variants.{Refuse, Nothing, Make}
 
 -- ---- what is needed
 
@@ -63,7 +62,7 @@ module _ (h : Sizes) (t : List ℕ) (c : ℕ) where
 
   -- ---- 6 before 8
 
-  by : Bool → Bool → Plan
+  by : Bool → Bool → Preparation
   by a b = cond a (Refuse 6) (cond b (Refuse 8) (Make c))
 
   module _ (v : ℕ) (ev : v ≡ overNeeded h t c) where
@@ -85,12 +84,12 @@ module _ (h : Sizes) (t : List ℕ) (c : ℕ) where
 
 -- ---- 3, then 4
 
-abbrev by-chunk : Sizes → Mem → Natural → Plan
-by-chunk h x (natural.At c) = planTo h (x .table) c
-by-chunk h x natural.Negative = Nothing
+abbrev pub byChunk : Sizes → Mem → Natural → Preparation
+byChunk h x (natural.At c) = planTo h (x .table) c
+byChunk h x natural.Negative = Nothing
 
 module _ (x : Mem) (z : ℤ) (a : Bool) (ea : a ≡ walked x) where
-  gate : Bool → Bool → Plan
+  gate : Bool → Bool → Preparation
   gate i j = cond i (cond j (Refuse 4) (planId x z)) (Refuse 3)
 
   pub plan-three : a ≡ false → Refuse 3 ≡ planPrepare x z
@@ -118,18 +117,12 @@ module _ (x : Mem) (z : ℤ) (a : Bool) (ea : a ≡ walked x) where
         unfolding planPrepare gate
         plan-open = ap₂ gate (sym ok ∙ ea) (sym (ap (λ (i : ℕ). eqb i 1) (sym em) ∙ ne-eqb m 1 open-set))
 
-        chunk-plan : (w : ℤ) → by-chunk h x (chunkOf (h .s) w) ≡ planId x w
+        chunk-plan : (w : ℤ) → byChunk h x (chunkOf (h .s) w) ≡ planId x w
         chunk-plan (pos n) = ap (λ (k : Sizes). planTo k (x .table) (n / top k)) eh
         chunk-plan (negsuc n) = refl
 
-        plan-natural : (q : Natural) → q ≡ chunkOf (h .s) z → by-chunk h x q ≡ planPrepare x z
-        plan-natural q e = ap (by-chunk h x) e ∙ chunk-plan z ∙ plan-open
-
-        pub plan-nothing : natural.Negative ≡ chunkOf (h .s) z → Nothing ≡ planPrepare x z
-        plan-nothing e = plan-natural natural.Negative e
-
-        pub plan-chunk : (c : ℕ) → natural.At c ≡ chunkOf (h .s) z → planTo h (x .table) c ≡ planPrepare x z
-        plan-chunk c e = plan-natural (natural.At c) e
+        pub plan-natural : (q : Natural) → q ≡ chunkOf (h .s) z → byChunk h x q ≡ planPrepare x z
+        plan-natural q e = ap (byChunk h x) e ∙ chunk-plan z ∙ plan-open
 
 -- a chunk id is far below 2^62
 pub chunk-small : (s : ℕ) (z : ℤ) (c : ℕ) → 9 ≤ s → s ≤ 25 → SFits w64 z → natural.At c ≡ chunkOf s z → c < 2 ^ 62
@@ -142,33 +135,37 @@ chunk-small s (negsuc n) c low high f e = absurd (let g : _≡_ {A = ℕ} 0 1 = 
 
 -- ---- carried out
 
-abbrev acted : Mem → Plan → Did
-acted x (Refuse n) = did (Refused n) x
-acted x Nothing = did Done x
-acted x (Make c) = did Done (densedTo (head x) (work x 0) (c + 1) .mem)
+abbrev pub carriedOut : Mem → Preparation → Did
+carriedOut x (Refuse n) = did (Refused n) x
+carriedOut x Nothing = did Done x
+carriedOut x (Make c) = did Done (densedTo (head x) x (c + 1))
 
-acted-by : (x : Mem) (z : ℤ) → acted x (planPrepare x z) ≡ prepareBy x z
+carried-out : (x : Mem) (z : ℤ) → carriedOut x (planPrepare x z) ≡ prepareBy x z
 unfolding planPrepare planTo prepareBy
-acted-by x z = go (walked x) (eqb (modeAt (x .table)) 1) z
+carried-out x z = go (walked x) (eqb (modeAt (x .table)) 1) z
   where
-    pick : (a b : Bool) (c : ℕ) → acted x (cond a (Refuse 6) (cond b (Refuse 8) (Make c))) ≡ cond a (did (Refused 6) x) (cond b (did (Refused 8) x) (did Done (densedTo (head x) (work x 0) (c + 1) .mem)))
+    pick : (a b : Bool) (c : ℕ) → carriedOut x (cond a (Refuse 6) (cond b (Refuse 8) (Make c)))
+        ≡ cond a (did (Refused 6) x) (cond b (did (Refused 8) x) (did Done (densedTo (head x) x (c + 1))))
     pick true b c = refl
     pick false true c = refl
     pick false false c = refl
 
-    go : (a b : Bool) (w : ℤ) → acted x (cond a (cond b (Refuse 4) (planId x w)) (Refuse 3)) ≡ cond a (cond b (did (Refused 4) x) (prepareId x w)) (did (Refused 3) x)
+    go : (a b : Bool) (w : ℤ) → carriedOut x (cond a (cond b (Refuse 4) (planId x w)) (Refuse 3))
+        ≡ cond a (cond b (did (Refused 4) x) (prepareId x w)) (did (Refused 3) x)
     go false b w = refl
     go true true w = refl
-    go true false (pos n) = pick (ltb (head x .v) (overNeeded (head x) (x .table) (n / top (head x)))) (ltb (head x .p) (pagesNeeded (head x) (x .table) (n / top (head x)))) (n / top (head x))
+    go true false (pos n) =
+        let c = n / top (head x) in
+        pick (ltb (head x .v) (overNeeded (head x) (x .table) c)) (ltb (head x .p) (pagesNeeded (head x) (x .table) c)) c
     go true false (negsuc n) = refl
 
 -- a plan that was made, carried out
-pub plan-acted : (x : Mem) (z : ℤ) (q r : Plan) → q ≡ planPrepare x z → q ≡ r → acted x r ≡ prepareBy x z
-plan-acted x z q r e f = ap (acted x) (sym f ∙ e) ∙ acted-by x z
+pub plan-carried : (x : Mem) (z : ℤ) (q r : Preparation) → q ≡ planPrepare x z → q ≡ r → carriedOut x r ≡ prepareBy x z
+plan-carried x z q r e f = ap (carriedOut x) (sym f ∙ e) ∙ carried-out x z
 
--- the same with what a customer reads
-pub says : (x : Mem) (z : ℤ) → SFits w64 z → (r : Outcome) (y : Mem) → did r y ≡ prepareBy x z → Does x (prepare z) (that r) y
-says x z f r y e = does x (prepare z) f (ap byOutcome e)
+-- what the contract prepare-does of it
+pub prepare-does : (x : Mem) (z : ℤ) → SFits w64 z → {r : Outcome} {y : Mem} → did r y ≡ prepareBy x z → Does x (prepare z) (that r) y
+prepare-does x z f e = does x (prepare z) f (ap byOutcome e)
 
 -- ---- a plan to make chunks dense stands on the walk and on room in the overflow table
 
@@ -178,7 +175,7 @@ not-make n c e = let z : _≡_ {A = ℕ} 0 1 = cc in omega arith
 not-nothing : (c : ℕ) → Nothing ≡ Make c → ⊥
 not-nothing c e = let z : _≡_ {A = ℕ} 0 1 = cc in omega arith
 
-gate-made : (a b : Bool) (p : Plan) (c : ℕ) → cond a (cond b (Refuse 4) p) (Refuse 3) ≡ Make c → (a ≡ true) × (p ≡ Make c)
+gate-made : (a b : Bool) (p : Preparation) (c : ℕ) → cond a (cond b (Refuse 4) p) (Refuse 3) ≡ Make c → (a ≡ true) × (p ≡ Make c)
 gate-made true true p c e = absurd (not-make 4 c e)
 gate-made true false p c e = (refl, e)
 gate-made false b p c e = absurd (not-make 3 c e)
@@ -209,8 +206,9 @@ sound x W b l =
       places = W .places;
     }
 
-pub plan-made : (x : Mem) (z : ℤ) (q : Plan) (c : ℕ) → q ≡ planPrepare x z → q ≡ Make c → Sound (x .pages) (x .rows) (x .table) × (overNeeded (headerAt (x .table)) (x .table) c ≤ headerAt (x .table) .v)
+pub made-sound : (x : Mem) (z : ℤ) (q : Preparation) (c : ℕ) → q ≡ planPrepare x z → q ≡ Make c
+    → Sound (x .pages) (x .rows) (x .table) × (overNeeded (headerAt (x .table)) (x .table) c ≤ headerAt (x .table) .v)
 unfolding planPrepare
-plan-made x z q c e f =
+made-sound x z q c e f =
     let g = gate-made (walked x) (eqb (modeAt (x .table)) 1) (planId x z) c (sym e ∙ f) in
     (sound x (walked-of x .sound (g .0)), id-made x z c (g .1))

@@ -1,4 +1,4 @@
--- One chunk's turn: a free page, and what each place makes of it. Assumes nothing.
+-- One chunk's turn: what is written for each place, and that it is the chunk's. Assumes nothing.
 use mathlib.Core.Path.{_≡_, sym, _∙_, ap, ap₂, subst}
 use mathlib.Core.List.{List}
 use mathlib.Core.Bool.{Bool, cond}
@@ -11,6 +11,8 @@ use Rattle.layout.specs.Mem.{Mem, mem}
 use Rattle.document.specs.Sizes.{top}
 use Rattle.layout.specs.Sizes.{wide}
 use Rattle.layout.specs.Places.{encoded, decoded, rowPart, pagePart}
+use Rattle.layout.specs.Entries.{wordOf, placeOf}
+use Rattle.layout.specs.Short.{wordIn}
 use Rattle.document.specs.declared.sizes.Sizes.{Sizes}
 use Rattle.layout.specs.declared.place.Place.{Place}
 use Rattle.layout.specs.declared.place.Place.the-variants.{Absent, Sparse, Dense}
@@ -18,30 +20,27 @@ use Rattle.layout.specs.declared.find.Word.{Word}
 use Rattle.layout.specs.declared.find.Word.the-variants as word
 use Rattle.layout.specs.Writes.{putPart, putWord, putRowOwner, putPageOwner, putRow}
 use Rattle.steps.specs.Steps.{paged}
-use Rattle.calls.specs.Prepare.{Work, work, intoPage, intoFree, densed, densedWord}
-use Rattle.prepare.specs.Ready.{RowInside, WordInside}
-use Rattle.prepare.proofs.Fills.{put-same}
+use Rattle.calls.specs.Prepare.{intoPage, densedIn}
+use Rattle.prepare.specs.Ready.{RowInside}
+use Rattle.prepare.proofs.Fills.{put-back}
 
--- ---- a page is found, or none
+-- ---- there is no page p, or it gets the chunk
 
-module _ (h : Sizes) (x : Mem) (next c : ℕ) (q : Place) (p f : ℕ) (e : p ≡ f) where
-  into : Bool → ℕ → Work
-  into b i = cond b (work (intoPage h x c i q) (i + 1)) (work x next)
+module _ (h : Sizes) (x : Mem) (c p : ℕ) where
+  pub no-page : h .p ≤ p → x ≡ densedIn h x c p
+  no-page l = ap (λ (b : Bool). cond b (intoPage h x c p (placeOf h (x .table) c)) x) (sym (le-ltb p (h .p) l))
 
-  pub free-none : h .p ≤ p → work x next ≡ intoFree h (work x next) c q f
-  unfolding into
-  free-none l = ap₂ into (sym (le-ltb f (h .p) (omega (arith, e)))) e
-
-  pub free-some : p < h .p → (y : Mem) → y ≡ intoPage h x c p q → work y (p + 1) ≡ intoFree h (work x next) c q f
-  unfolding into
-  free-some l y g = ap (λ (m : Mem). work m (p + 1)) g ∙ ap₂ into (sym (lt-ltb f (h .p) (omega (arith, e)))) e
+  pub in-page : p < h .p → (q : Place) → q ≡ placeOf h (x .table) c → {y : Mem} → y ≡ intoPage h x c p q → y ≡ densedIn h x c p
+  in-page l q e f =
+      f ∙ ap (intoPage h x c p) e
+      ∙ ap (λ (b : Bool). cond b (intoPage h x c p (placeOf h (x .table) c)) x) (sym (lt-ltb p (h .p) l))
 
 -- ---- what is written
 
 module _ (h : Sizes) (c p : ℕ) (ps rs bs t : List ℕ) where
   pub absent-page : (t′ : List ℕ) → t′ ≡ putPageOwner h (putWord h t c (encoded (Dense p))) p (c + 1) → mem ps rs bs t′ ≡ intoPage h (mem ps rs bs t) c p Absent
   unfolding paged
-  absent-page t′ e = ap₂ (λ (u v : List ℕ). mem u rs bs v) (sym (put-same ps (p * wide h) (wide h))) e
+  absent-page t′ e = ap₂ (λ (u v : List ℕ). mem u rs bs v) (sym (put-back ps (p * wide h) (wide h))) e
 
   pub sparse-page : (r l : ℕ) (ps′ rs′ t′ : List ℕ) → ps′ ≡ putPart ps (p * wide h) (wide h) (withRow (pagePart h ps p) 0 (rowPart h rs r) (top h) l)
       → rs′ ≡ putRow h rs r (replicate (h .m) 0) → t′ ≡ putPageOwner h (putRowOwner h (putWord h t c (encoded (Dense p))) r 0) p (c + 1)
@@ -51,14 +50,15 @@ module _ (h : Sizes) (c p : ℕ) (ps rs bs t : List ℕ) where
       ap (λ (u : List ℕ). mem u rs′ bs t′) e
       ∙ ap₂ (λ (u v : List ℕ). mem (putPart ps (p * wide h) (wide h) (withRow (pagePart h ps p) 0 (rowPart h rs r) (top h) l)) u bs v) f g
 
--- ---- by the word that is found
+-- ---- the word that is found
 
-module _ (h : Sizes) (v : Work) (c : ℕ) (r : Word) where
-  pub word-bad : r ≡ word.Bad → v ≡ densedWord h v c r
-  word-bad e = ap (densedWord h v c) (sym e)
+module _ (h : Sizes) (t : List ℕ) (c : ℕ) (has : wordIn t c ≡ word.Is (wordOf h t c)) (r : Word) (is : r ≡ wordIn t c) where
+  pub never-bad : r ≡ word.Bad → ⊥
+  never-bad e = let z : _≡_ {A = ℕ} 0 1 = cc in omega arith
 
-  pub word-place : (w : ℕ) (p q : Place) → r ≡ word.Is w → p ≡ decoded w → p ≡ q → densed h v c q ≡ densedWord h v c r
-  word-place w p q e f g = ap (densed h v c) (sym g ∙ f) ∙ ap (densedWord h v c) (sym e)
+  pub place-is : (w : ℕ) (p q : Place) → r ≡ word.Is w → p ≡ decoded w → p ≡ q → q ≡ placeOf h t c
+  place-is w p q e f g = sym g ∙ f ∙ ap decoded (let i : w ≡ wordOf h t c = cc in i)
 
-pub found-inside : (h : Sizes) (r : Word) (w : ℕ) (p q : Place) → r ≡ word.Is w → p ≡ decoded w → p ≡ q → WordInside h r → RowInside h q
-found-inside h r w p q e f g i = subst (RowInside h) (sym f ∙ g) (subst (WordInside h) e i)
+-- a row that is the chunk's place lies inside its pool
+pub inside-same : (h : Sizes) (p q : Place) → p ≡ q → RowInside h q → RowInside h p
+inside-same h p q e i = subst (RowInside h) (sym e) i
