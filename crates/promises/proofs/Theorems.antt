@@ -20,7 +20,13 @@ use Rattle.document.proofs.Threes.{answer-not-three, reply-not-three, plan-not-
 use Rattle.layout.specs.Mem.{Mem}
 use Rattle.layout.specs.Meaning.{stateOf, ranked}
 use Rattle.layout.specs.Follows.{Follows}
+use Rattle.layout.specs.Sizes.{head}
 use Rattle.layout.specs.SetUp.{Did, setUpBy}
+use Rattle.layout.specs.Spare.{Spare}
+use Rattle.layout_laws.specs.StandsFor.{StandsForOne}
+use Rattle.layout_laws.proofs.StandsFor.{stands-for-one as one-state}
+use Rattle.layout_laws.proofs.Spares.{set-up-spare}
+use Rattle.contracts.proofs.Spares.{spare}
 use Rattle.contracts.specs.Runs.{ranBy}
 use Rattle.contracts.specs.Runs as runs
 use Rattle.contracts.specs.Does.{Does, Answers, SetsUp}
@@ -80,9 +86,22 @@ module _ (x : Mem) where
   refused-stays-plan S bs cs n p =
       ap (λ (c : Cut). c .bounds) (p .by) ∙ plan-refused x S bs n (sym (ap (λ (c : Cut). c .answer) (p .by)))
 
--- ---- memory that follows the layout is never the cause of a 3
+  -- set-up writes nothing past the sizes
+  pub spare-stays-set-up : (h : Sizes) (a : Outcome) (y : Mem) → SetsUp h x a y → Spare h x y
+  spare-stays-set-up h a y s = subst (λ (r : Did). Spare h x (r .after)) (sym (s .by)) (set-up-spare h x)
+
+-- ---- memory that follows the layout
 
 module _ (x : Mem) (w : Follows x) where
+  -- it stands for one set
+  pub stands-for-one : StandsForOne x
+  stands-for-one = one-state w
+
+  -- no call writes past the sizes
+  pub spare-stays : (c : Call) (a : Said) (y : Mem) → Does x c a y → Spare (head x) x y
+  spare-stays c a y d = subst (λ (r : runs.Ran). Spare (head x) x (r .after)) (sym (d .by)) (spare x c w)
+
+  -- it is never the cause of a 3
   pub never-three : (c : Call) (a : Said) (y : Mem) → Does x c a y → Refuses a 3 → ⊥
   never-three c a y d r = answer-not-three (stateOf x) c (subst (λ (b : Said). Refuses b 3) (d .says w .said) r)
 
