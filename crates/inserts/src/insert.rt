@@ -3,7 +3,8 @@ ghost use mathlib.Core.Path.{_≡_};
 ghost use Rattle.layout.specs.Mem.{memOf};
 ghost use Rattle.calls.specs.Insert.{told, insertBy, preparedBy};
 ghost use Rattle.document.specs.Insert.{done};
-ghost use Rattle.inserts.specs.Calls.{SetsIfNew, SetsPrepared, Sets};
+ghost use Rattle.document.specs.Calls.{insert, put, prepared, whether, that};
+ghost use Rattle.contracts.specs.Does.{Does};
 use crate::chunk;
 use crate::direct;
 use crate::direct::Direct;
@@ -22,7 +23,9 @@ fn anywhere(
     table: &mut [u64],
     id: i64,
 ) -> Truth
-    ensures { λ r. ⌜ told r (memOf (pages .exit) (rows .exit) (blocks .entry) (table .exit)) ≡ insertBy (memOf (pages .entry) (rows .entry) (blocks .entry) (table .entry)) id ⌝ }
+    ensures { λ r. ⌜ (let x = memOf (pages .entry) (rows .entry) (blocks .entry) (table .entry) in
+        let y = memOf (pages .exit) (rows .exit) (blocks .entry) (table .exit) in
+        told r y ≡ insertBy x id) ⌝ }
 {
     let n = gate::refusal(table);
     if n != 0 {
@@ -43,7 +46,9 @@ pub fn set_if_new(
     table: &mut [u64],
     id: i64,
 ) -> Truth
-    ensures { λ r. ⌜ SetsIfNew (memOf (pages .entry) (rows .entry) (blocks .entry) (table .entry)) id r (memOf (pages .exit) (rows .exit) (blocks .exit) (table .exit)) ⌝ }
+    ensures { λ r. ⌜ (let x = memOf (pages .entry) (rows .entry) (blocks .entry) (table .entry) in
+        let y = memOf (pages .exit) (rows .exit) (blocks .exit) (table .exit) in
+        Does x (insert id) (whether r) y) ⌝ }
 {
     match direct::put(pages, rows, blocks, table, id) {
         Direct::Is(b) => Truth::Is(b),
@@ -69,7 +74,9 @@ pub fn set(
     table: &mut [u64],
     id: i64,
 ) -> Outcome
-    ensures { λ r. ⌜ Sets (memOf (pages .entry) (rows .entry) (blocks .entry) (table .entry)) id r (memOf (pages .exit) (rows .exit) (blocks .exit) (table .exit)) ⌝ }
+    ensures { λ r. ⌜ (let x = memOf (pages .entry) (rows .entry) (blocks .entry) (table .entry) in
+        let y = memOf (pages .exit) (rows .exit) (blocks .exit) (table .exit) in
+        Does x (put id) (that r) y) ⌝ }
 {
     match direct::put(pages, rows, blocks, table, id) {
         Direct::Is(_) => Outcome::Done,
@@ -79,7 +86,9 @@ pub fn set(
 
 // The whole way of the prepared insert.
 fn prepared(pages: &mut [u64], rows: &[u32], blocks: &[u32], table: &[u64], id: i64) -> Truth
-    ensures { λ r. ⌜ told r (memOf (pages .exit) (rows .entry) (blocks .entry) (table .entry)) ≡ preparedBy (memOf (pages .entry) (rows .entry) (blocks .entry) (table .entry)) id ⌝ }
+    ensures { λ r. ⌜ (let x = memOf (pages .entry) (rows .entry) (blocks .entry) (table .entry) in
+        let y = memOf (pages .exit) (rows .entry) (blocks .entry) (table .entry) in
+        told r y ≡ preparedBy x id) ⌝ }
 {
     let n = gate::refusal(table);
     if n != 0 {
@@ -100,7 +109,9 @@ pub fn set_prepared(
     table: &mut [u64],
     id: i64,
 ) -> Truth
-    ensures { λ r. ⌜ SetsPrepared (memOf (pages .entry) (rows .entry) (blocks .entry) (table .entry)) id r (memOf (pages .exit) (rows .exit) (blocks .exit) (table .exit)) ⌝ }
+    ensures { λ r. ⌜ (let x = memOf (pages .entry) (rows .entry) (blocks .entry) (table .entry) in
+        let y = memOf (pages .exit) (rows .exit) (blocks .exit) (table .exit) in
+        Does x (prepared id) (whether r) y) ⌝ }
 {
     match direct::put(pages, rows, blocks, table, id) {
         Direct::Is(b) => Truth::Is(b),

@@ -1,6 +1,5 @@
 -- A member stays; a row with room takes one more; a full one turns into a page. Assumes nothing.
-use mathlib.Core.Path.{_≡_}
-use Prim.Native.Nat.{ℕ, _+_, _*_, _≤_}
+use Prim.Native.Nat.{_+_, _≤_}
 use native.Mathlib.Omega.{arith}
 use lib.ListN.{length}
 use Rattle.layout.specs.Mem.{Mem, memOf}
@@ -57,16 +56,29 @@ sub-left : tie.Need-sub-left
 sub-left c = search needs
 
 returns : tie.Need-returns
-returns c = let k = c .before .before .before .before .before .before in let a = start k .args in row-enter (memory k) (a .r) (a .l) (a .o) _ _ (k .before .at .ensures) (k .times .ensures) _ (c .before .before .before .before .spot .ensures) _ (c .before .before .k .given .1) (omega (arith, c .if1 .taken))
+returns c =
+    let k = c .before .before .before .before .before .before in
+    let a = start k .args in
+    row-enter (memory k) (a .r) (a .l) (a .o) _ _ (k .before .at .ensures) (k .times .ensures) _
+    (c .before .before .before .before .spot .ensures) _ (c .before .before .k .given .1) (omega (arith, c .if1 .taken))
 
 turn-requires : tie.Need-turn-requires
 turn-requires c κs = search needs
 
 returns-2 : tie.Need-returns-2
-returns-2 c = let k = c .before .before .before .before in let a = start k .args in row-known (memory k) (a .r) (a .l) (a .o) _ _ (k .before .at .ensures) (k .times .ensures) _ (c .before .before .spot .ensures) _ (c .enum-told .given .1)
+returns-2 c =
+    let k = c .before .before .before .before in
+    let a = start k .args in
+    row-known (memory k) (a .r) (a .l) (a .o) _ _ (k .before .at .ensures) (k .times .ensures) _ (c .before .before .spot .ensures) _
+    (c .enum-told .given .1)
 
 returns-3 : tie.Need-returns-3
-returns-3 c = let k = c .before .before .before .before .before .before .before in let a = start k .args in row-turn (memory k) (a .r) (a .l) (a .o) _ _ (k .before .at .ensures) (k .times .ensures) _ (c .before .before .before .before .before .spot .ensures) _ (c .before .before .before .k .given .1) (omega (arith, c .before .if1 .left)) _ (c .turn .ensures)
+returns-3 c =
+    let k = c .before .before .before .before .before .before .before in
+    let a = start k .args in
+    row-turn (memory k) (a .r) (a .l) (a .o) _ _ (k .before .at .ensures) (k .times .ensures) _
+    (c .before .before .before .before .before .spot .ensures) _ (c .before .before .before .k .given .1)
+    (omega (arith, c .before .if1 .left)) _ (c .turn .ensures)
 
 pub row-spec : {M : Type 1} → statement M
 row-spec =
