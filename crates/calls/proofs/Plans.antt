@@ -43,6 +43,15 @@ sparse-word w r l e = go (eqb w 0) refl (ltb w 268435456) e
     go false p true q = let n = eqb-false w 0 p in let i : (w - 1) / 2048 ≡ r = cc in let j : (w - 1) % 2048 ≡ l = cc in omega arith
     go false p false q = absurd (let z : _≡_ {A = ℕ} 0 1 = cc in omega arith)
 
+-- its row, of all that a word can name
+pub sparse-below : (w r l : ℕ) → decoded w ≡ Sparse r l → r < 131072
+sparse-below w r l e = go (eqb w 0) refl (ltb w 268435456) refl e
+  where
+    go : (a : Bool) → eqb w 0 ≡ a → (b : Bool) → ltb w 268435456 ≡ b → cond a Absent (cond b (Sparse ((w - 1) / 2048) ((w - 1) % 2048)) (Dense (w - 268435456))) ≡ Sparse r l → r < 131072
+    go true p b s q = absurd (let z : _≡_ {A = ℕ} 0 1 = cc in omega arith)
+    go false p true s q = let n = ltb-true w 268435456 s in let i : (w - 1) / 2048 ≡ r = cc in omega arith
+    go false p false s q = absurd (let z : _≡_ {A = ℕ} 0 1 = cc in omega arith)
+
 pub dense-word : (w p : ℕ) → decoded w ≡ Dense p → w ≡ 268435456 + p
 dense-word w p e = go (eqb w 0) (ltb w 268435456) refl e
   where

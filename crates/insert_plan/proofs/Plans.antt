@@ -1,7 +1,9 @@
 -- The plans of inserts into absent and sparse chunks, way by way. Assumes nothing.
 use mathlib.Core.Path.{_≡_, sym, _∙_, ap, ap₂}
+use mathlib.Core.List.{List}
 use mathlib.Core.Bool.{Bool, true, false, cond, not, _&&_}
-use Prim.Native.Nat.{ℕ, _+_, _-_, _/_, _≤_, _<_}
+use Prim.Native.Nat.{ℕ, _+_, _-_, _*_, _≤_, _<_}
+use native.Mathlib.Omega.{arith}
 use lib.Dec.{leb, ltb}
 use lib.ListN.{take, drop}
 use borrow.Author.Tests.{lt-ltb, le-ltb, not-true, not-false}
@@ -10,14 +12,14 @@ use Rattle.sparse.specs.declared.Place.{Place}
 use Rattle.sparse.specs.declared.Place.the-variants.{Found, Free}
 use Rattle.layout.specs.Mem.{Mem}
 use Rattle.layout.specs.Sizes.{head, overCount}
-use Rattle.layout.specs.Places.{rowOwner, pageOwner}
+use Rattle.layout.specs.Places.{rowPart, rowOwner, pageOwner}
 use Rattle.layout.specs.Tests.{headIs}
 use Rattle.layout.proofs.Tests.{HeadIs, head-of}
 use Rattle.document.specs.declared.sizes.Sizes.{Sizes}
-use Rattle.calls.specs.Insert.{firstFree, freeRow, freePage, planBegin, planTurn, planRow}
+use Rattle.calls.specs.Insert.{firstFree, freeRow, freePage, startChunk, turnDense, intoRow}
 use Rattle.calls.specs.declared.plan.Plan.{Plan}
 use Rattle.calls.specs.declared.plan.Plan.the-variants.{Refuse, Known, Enter, Begin, Turn}
-use Rattle.idset.proofs.Spots.{span}
+use Rattle.steps.proofs.Lent.{span}
 
 -- ---- where the header is looked at
 
@@ -37,7 +39,7 @@ module _ (x : Mem) (h : Sizes) (e : h ≡ head x) (b : Bool) (f : b ≡ headIs h
   head-good g = head-of h x .sound (sym f ∙ not-false b g)
 
   module _ (c : ℕ) where
-    pub begin-bad : not b ≡ true → Refuse 3 ≡ planBegin x c (freeRow x)
+    pub begin-bad : not b ≡ true → Refuse 3 ≡ startChunk x c
     begin-bad g =
         ap (λ (a : Bool). begins a (leb (head x .d) c && leb (head x .v) (overCount (x .table))) (ltb (freeRow x) (head x .r)) (freeRow x)) (sym (head-is ∙ not-true b g))
 
@@ -45,10 +47,10 @@ module _ (x : Mem) (h : Sizes) (e : h ≡ head x) (b : Bool) (f : b ≡ headIs h
       full : (leb (head x .d) c && leb (head x .v) (overCount (x .table))) ≡ (leb (h .d) c && leb (h .v) n)
       full = ap₂ (λ (k : Sizes) (i : ℕ). leb (k .d) c && leb (k .v) i) (sym e) (sym en)
 
-      begun : (o : Bool) → (leb (h .d) c && leb (h .v) n) ≡ o → begins true o (ltb (freeRow x) (head x .r)) (freeRow x) ≡ planBegin x c (freeRow x)
+      begun : (o : Bool) → (leb (h .d) c && leb (h .v) n) ≡ o → begins true o (ltb (freeRow x) (head x .r)) (freeRow x) ≡ startChunk x c
       begun o k = ap₂ (λ (i j : Bool). begins i j (ltb (freeRow x) (head x .r)) (freeRow x)) (sym (head-is ∙ not-false b g)) (sym (full ∙ k))
 
-      pub begin-six : (leb (h .d) c && leb (h .v) n) ≡ true → Refuse 6 ≡ planBegin x c (freeRow x)
+      pub begin-six : (leb (h .d) c && leb (h .v) n) ≡ true → Refuse 6 ≡ startChunk x c
       begin-six k = begun true k
 
       module _ (k : (leb (h .d) c && leb (h .v) n) ≡ false) (r : ℕ) (er : r ≡ firstFree (rowOwner h (x .table)) 0 (h .r)) where
@@ -58,23 +60,23 @@ module _ (x : Mem) (h : Sizes) (e : h ≡ head x) (b : Bool) (f : b ≡ headIs h
         fits : ltb (freeRow x) (head x .r) ≡ ltb r (h .r)
         fits = ap₂ (λ (i : ℕ) (k : Sizes). ltb i (k .r)) (sym row-is) (sym e)
 
-        pub begin-row : r < h .r → Begin r ≡ planBegin x c (freeRow x)
+        pub begin-row : r < h .r → Begin r ≡ startChunk x c
         begin-row l = ap Begin row-is ∙ ap (λ (t : Bool). begins true false t (freeRow x)) (sym (fits ∙ lt-ltb r (h .r) l)) ∙ begun false k
 
-        pub begin-seven : h .r ≤ r → Refuse 7 ≡ planBegin x c (freeRow x)
+        pub begin-seven : h .r ≤ r → Refuse 7 ≡ startChunk x c
         begin-seven l = ap (λ (t : Bool). begins true false t (freeRow x)) (sym (fits ∙ le-ltb r (h .r) l)) ∙ begun false k
 
   module _ (r l : ℕ) where
-    pub turn-bad : not b ≡ true → Refuse 3 ≡ planTurn x r l (freePage x)
+    pub turn-bad : not b ≡ true → Refuse 3 ≡ turnDense x r l
     turn-bad g = ap (λ (a : Bool). turns a (ltb r (head x .r)) (ltb (freePage x) (head x .p)) r l (freePage x)) (sym (head-is ∙ not-true b g))
 
     module _ (g : not b ≡ false) where
-      there : (o : Bool) → ltb r (h .r) ≡ o → turns true o (ltb (freePage x) (head x .p)) r l (freePage x) ≡ planTurn x r l (freePage x)
+      there : (o : Bool) → ltb r (h .r) ≡ o → turns true o (ltb (freePage x) (head x .p)) r l (freePage x) ≡ turnDense x r l
       there o k =
           ap₂ (λ (i j : Bool). turns i j (ltb (freePage x) (head x .p)) r l (freePage x)) (sym (head-is ∙ not-false b g))
           (sym (ap (λ (k : Sizes). ltb r (k .r)) (sym e) ∙ k))
 
-      pub turn-out : h .r ≤ r → Refuse 3 ≡ planTurn x r l (freePage x)
+      pub turn-out : h .r ≤ r → Refuse 3 ≡ turnDense x r l
       turn-out m = there false (le-ltb r (h .r) m)
 
       module _ (m : r < h .r) (p : ℕ) (ep : p ≡ firstFree (pageOwner h (x .table)) 0 (h .p)) where
@@ -84,27 +86,37 @@ module _ (x : Mem) (h : Sizes) (e : h ≡ head x) (b : Bool) (f : b ≡ headIs h
         fit : ltb (freePage x) (head x .p) ≡ ltb p (h .p)
         fit = ap₂ (λ (i : ℕ) (k : Sizes). ltb i (k .p)) (sym page-is) (sym e)
 
-        pub turn-page : p < h .p → Turn r l p ≡ planTurn x r l (freePage x)
+        pub turn-page : p < h .p → Turn r l p ≡ turnDense x r l
         turn-page i =
             ap (Turn r l) page-is
             ∙ ap (λ (t : Bool). turns true true t r l (freePage x)) (sym (fit ∙ lt-ltb p (h .p) i))
             ∙ there true (lt-ltb r (h .r) m)
 
-        pub turn-eight : h .p ≤ p → Refuse 8 ≡ planTurn x r l (freePage x)
+        pub turn-eight : h .p ≤ p → Refuse 8 ≡ turnDense x r l
         turn-eight i = ap (λ (t : Bool). turns true true t r l (freePage x)) (sym (fit ∙ le-ltb p (h .p) i)) ∙ there true (lt-ltb r (h .r) m)
 
 -- ---- into a row
 
-module _ (x : Mem) (w a n l o : ℕ) (p : Place) (e : p ≡ spotIn (take (a + n - a) (drop a (x .rows))) l o) where
-  row-way : (q : Place) → p ≡ q → planRow x w a n l q ≡ planRow x w a n l (spotIn (take n (drop a (x .rows))) l o)
-  row-way q f = ap (planRow x w a n l) (sym f ∙ (e ∙ ap (λ (k : ℕ). spotIn (take k (drop a (x .rows))) l o) (span a n)))
+-- row r, where its places and its start were read
+pub row-inside : (r k n m a : ℕ) → r * k + k ≤ n → m ≡ k → a ≡ r * m → a + m ≤ n
+row-inside r k n m a l e f = let g : r * m ≡ r * k = ap (λ (i : ℕ). r * i) e in omega arith
 
-  pub row-known : (i : ℕ) → p ≡ Found i → Known ≡ planRow x w a n l (spotIn (take n (drop a (x .rows))) l o)
+module _ (x : Mem) (r l o m a : ℕ) (em : m ≡ head x .m) (ea : a ≡ r * m) (p : Place) (e : p ≡ spotIn (take (a + m - a) (drop a (x .rows))) l o) where
+  -- the row that was lent
+  lent : take (a + m - a) (drop a (x .rows)) ≡ rowPart (head x) (x .rows) r
+  lent =
+      ap₂ (λ (i j : ℕ). take i (drop j (x .rows))) (span a m) ea
+      ∙ ap (λ (i : ℕ). take i (drop (r * i) (x .rows))) em
+
+  row-way : (q : Place) → p ≡ q → intoRow x r l q ≡ intoRow x r l (spotIn (rowPart (head x) (x .rows) r) l o)
+  row-way q f = ap (intoRow x r l) (sym f ∙ (e ∙ ap (λ (row : List ℕ). spotIn row l o) lent))
+
+  pub row-known : (i : ℕ) → p ≡ Found i → Known ≡ intoRow x r l (spotIn (rowPart (head x) (x .rows) r) l o)
   row-known i f = row-way (Found i) f
 
   module _ (k : ℕ) (f : p ≡ Free k) where
-    pub row-enter : l < n → Enter a n l k w ≡ planRow x w a n l (spotIn (take n (drop a (x .rows))) l o)
-    row-enter m = ap (λ (b : Bool). cond b (Enter a n l k w) (planTurn x ((w - 1) / 2048) l (freePage x))) (sym (lt-ltb l n m)) ∙ row-way (Free k) f
+    pub row-enter : l < m → Enter r l k ≡ intoRow x r l (spotIn (rowPart (head x) (x .rows) r) l o)
+    row-enter g = ap (λ (b : Bool). cond b (Enter r l k) (turnDense x r l)) (sym (lt-ltb l (head x .m) (omega arith))) ∙ row-way (Free k) f
 
-    pub row-turn : n ≤ l → (q : Plan) → q ≡ planTurn x ((w - 1) / 2048) l (freePage x) → q ≡ planRow x w a n l (spotIn (take n (drop a (x .rows))) l o)
-    row-turn m q g = g ∙ (ap (λ (b : Bool). cond b (Enter a n l k w) (planTurn x ((w - 1) / 2048) l (freePage x))) (sym (le-ltb l n m)) ∙ row-way (Free k) f)
+    pub row-turn : m ≤ l → (q : Plan) → q ≡ turnDense x r l → q ≡ intoRow x r l (spotIn (rowPart (head x) (x .rows) r) l o)
+    row-turn g q t = t ∙ (ap (λ (b : Bool). cond b (Enter r l k) (turnDense x r l)) (sym (le-ltb l (head x .m) (omega arith))) ∙ row-way (Free k) f)

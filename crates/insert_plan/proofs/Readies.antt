@@ -2,10 +2,10 @@
 use mathlib.Core.Path.{_≡_, refl, sym, _∙_, ap}
 use mathlib.Core.List.{List}
 use mathlib.Core.Bool.{Bool, true, false, cond, _&&_}
-use Prim.Native.Nat.{ℕ, _+_, _-_, _*_, _/_, _^_, _≤_, _<_}
+use Prim.Native.Nat.{ℕ, _+_, _-_, _*_, _^_, _≤_, _<_}
 use native.Mathlib.Omega.{arith}
 use lib.Dec.{leb, ltb}
-use lib.ListN.{length, getD, take, drop}
+use lib.ListN.{length, getD}
 use borrow.Author.Tests.{leb-true, ltb-true, le-ltb}
 use Rattle.numbers.proofs.Powers.{powers}
 use Rattle.sums.proofs.Rules.{both}
@@ -15,16 +15,19 @@ use Rattle.sparse.specs.declared.Place.the-variants.{Found, Free}
 use Rattle.sparse.proofs.Searches.{placeOf, spot-le}
 use Rattle.layout.specs.Mem.{Mem}
 use Rattle.layout.specs.Sizes.{head, overCount}
+use Rattle.layout.specs.Places.{rowPart}
 use Rattle.layout.specs.Short.{directWord, overflowWord, overWord, overPlace, wordIn}
 use Rattle.layout.specs.Tests.{headIs}
 use Rattle.layout.proofs.Tests.{head-of}
 use Rattle.layout.specs.declared.find.Word.the-variants as word
-use Rattle.layout.specs.declared.find.Spot.the-variants.{Row, Page}
+use Rattle.layout.specs.declared.find.Spot.the-variants.{Page}
+use Rattle.layout.specs.declared.place.Place.the-variants.{Sparse}
 use Rattle.calls.specs.Reading.{spotBy}
-use Rattle.calls.specs.Insert.{freeRow, freePage, planBegin, planTurn, planRow}
+use Rattle.calls.specs.Insert.{freeRow, freePage, startChunk, turnDense, intoRow}
 use Rattle.calls.specs.declared.plan.Plan.the-variants.{Refuse, Enter, Begin, Turn}
-use Rattle.idset.proofs.Spots.{InRows, spot-row, spot-page, spot-sparse}
-use Rattle.insert_plan.specs.Ready.{Reached, Ready}
+use Rattle.calls.proofs.Places.{Names, row-in, page-in, page-at}
+use Rattle.calls.proofs.Plans.{sparse-below}
+use Rattle.insert_plan.specs.Ready.{RowReady, Ready}
 
 -- ---- a word that was found
 
@@ -63,13 +66,16 @@ module _ (x : Mem) (c o s : ℕ) (es : s ≡ getD (x .table) 0 0) (low : 9 ≤ s
   -- what is asked where a part is looked at
   pub page-ready : (w a n : ℕ) → Page a n ≡ spotBy x w → (a + n ≤ length (x .pages)) × (o < 64 * n)
   page-ready w a n f =
-      let i = spot-page (getD (x .table) 0 0) (getD (x .table) 1 0) (length (x .pages)) (length (x .rows)) w a n (sym f) in
-      (i .inside, offset-bit n (i .wide))
+      let p = page-at x w a n f in
+      let q = page-in x (p .page) (p .names .good) .fits in
+      let b = p .start in
+      let d = p .long in
+      (omega arith, offset-bit n d)
 
-  pub row-ready : (w a n l : ℕ) → Row a n l ≡ spotBy x w → (a + n ≤ length (x .rows)) × (l ≤ n) × (o < 2 ^ 32) × (1 ≤ w)
-  row-ready w a n l f =
-      let i = spot-row (getD (x .table) 0 0) (getD (x .table) 1 0) (length (x .pages)) (length (x .rows)) w a n l (sym f) in
-      (i .inside, i .short, offset-small, spot-sparse (getD (x .table) 0 0) (getD (x .table) 1 0) (length (x .pages)) (length (x .rows)) w a n l (sym f) .0)
+  pub row-ready : (w r l : ℕ) → Names x w (Sparse r l) → RowReady (x .rows) r l (head x) × (o < 2 ^ 32)
+  row-ready w r l i =
+      let q = row-in x r l (i .good) in
+      (record { row = sparse-below w r l (i .is); small = q .small; fits = q .fits; members = q .short }, offset-small)
 
   begin-if : (a f t : Bool) → headIs (head x) x ≡ a → ltb (freeRow x) (head x .r) ≡ t → Ready (x .pages) (x .rows) (x .table) c o (cond a (cond f (Refuse 6) (cond t (Begin (freeRow x)) (Refuse 7))) (Refuse 3))
   begin-if false f t p q = tt
@@ -88,7 +94,7 @@ module _ (x : Mem) (c o s : ℕ) (es : s ≡ getD (x .table) 0 0) (low : 9 ≤ s
         offset = offset-small;
       }
 
-  pub ready-begin : Ready (x .pages) (x .rows) (x .table) c o (planBegin x c (freeRow x))
+  pub ready-begin : Ready (x .pages) (x .rows) (x .table) c o (startChunk x c)
   ready-begin = begin-if (headIs (head x) x) (leb (head x .d) c && leb (head x .v) (overCount (x .table))) (ltb (freeRow x) (head x .r)) refl refl
 
   turn-if : (r l : ℕ) → l ≤ head x .m → (a t : Bool) → (headIs (head x) x && ltb r (head x .r)) ≡ a → ltb (freePage x) (head x .p) ≡ t → Ready (x .pages) (x .rows) (x .table) c o (cond a (cond t (Turn r l (freePage x)) (Refuse 8)) (Refuse 3))
@@ -111,26 +117,26 @@ module _ (x : Mem) (c o s : ℕ) (es : s ≡ getD (x .table) 0 0) (low : 9 ≤ s
         offset = omega (arith, top-is);
       }
 
-  ready-turn : (r l : ℕ) → l ≤ head x .m → Ready (x .pages) (x .rows) (x .table) c o (planTurn x r l (freePage x))
+  ready-turn : (r l : ℕ) → l ≤ head x .m → Ready (x .pages) (x .rows) (x .table) c o (turnDense x r l)
   ready-turn r l m = turn-if r l m (headIs (head x) x && ltb r (head x .r)) (ltb (freePage x) (head x .p)) refl refl
 
-  module _ (w : ℕ) (e : word.Is w ≡ wordIn (x .table) c) where
-    reached : Reached (x .table) c
-    reached = record { chunk = chunk; over = over-small (x .table) c w e }
+  module _ (w : ℕ) (e : word.Is w ≡ wordIn (x .table) c) (r l : ℕ) (i : Names x w (Sparse r l)) where
+    enter-if : (k : ℕ) → k ≤ l → (b : Bool) → ltb l (head x .m) ≡ b → Ready (x .pages) (x .rows) (x .table) c o (cond b (Enter r l k) (turnDense x r l))
+    enter-if k m true q =
+        record {
+          row = row-ready w r l i .0;
+          place = m;
+          room = ltb-true l (head x .m) q;
+          offset = offset-small;
+          chunk = chunk;
+          over = over-small (x .table) c w e;
+        }
+    enter-if k m false q = ready-turn r l (row-in x r l (i .good) .short)
 
-    module _ (a n l : ℕ) (i : InRows (getD (x .table) 1 0) (length (x .rows)) a n l) (u : w < 268435456) where
-      enter-if : (k : ℕ) → k ≤ l → (b : Bool) → ltb l n ≡ b → Ready (x .pages) (x .rows) (x .table) c o (cond b (Enter a n l k w) (planTurn x ((w - 1) / 2048) l (freePage x)))
-      enter-if k m true q =
-          record { inside = i .inside; place = m; room = ltb-true l n q; offset = offset-small; word = omega arith; reached = reached }
-      enter-if k m false q = let p = i .short in let z = i .wide in ready-turn ((w - 1) / 2048) l (omega arith)
-
-      row-if : (p : Place) → placeOf p ≤ l → Ready (x .pages) (x .rows) (x .table) c o (planRow x w a n l p)
-      row-if (Found k) m = tt
-      row-if (Free k) m = enter-if k m (ltb l n) refl
+    row-if : (p : Place) → placeOf p ≤ l → Ready (x .pages) (x .rows) (x .table) c o (intoRow x r l p)
+    row-if (Found k) m = tt
+    row-if (Free k) m = enter-if k m (ltb l (head x .m)) refl
 
     -- the plan of an insert into a row
-    pub ready-row : (a n l : ℕ) → Row a n l ≡ spotBy x w → Ready (x .pages) (x .rows) (x .table) c o (planRow x w a n l (spotIn (take n (drop a (x .rows))) l o))
-    ready-row a n l f =
-        row-if a n l (spot-row (getD (x .table) 0 0) (getD (x .table) 1 0) (length (x .pages)) (length (x .rows)) w a n l (sym f))
-        (spot-sparse (getD (x .table) 0 0) (getD (x .table) 1 0) (length (x .pages)) (length (x .rows)) w a n l (sym f) .1)
-        (spotIn (take n (drop a (x .rows))) l o) (spot-le (take n (drop a (x .rows))) l o)
+    pub ready-row : Ready (x .pages) (x .rows) (x .table) c o (intoRow x r l (spotIn (rowPart (head x) (x .rows) r) l o))
+    ready-row = let row = rowPart (head x) (x .rows) r in row-if (spotIn row l o) (spot-le row l o)

@@ -1,20 +1,23 @@
 // What an insert into an absent or a sparse chunk is to do, found before anything is written. Only what is touched is tested.
 ghost use mathlib.Core.Path.{_≡_};
-ghost use Prim.Native.Nat.{_+_, _^_, _≤_, _<_};
-ghost use lib.ListN.{length, take, drop};
+ghost use Prim.Native.Nat.{_^_, _<_};
 ghost use Rattle.sparse.specs.Search.{spotIn};
 ghost use Rattle.layout.specs.Mem.{memOf};
-ghost use Rattle.calls.specs.Insert.{freeRow, freePage, planBegin, planTurn, planRow};
+ghost use Rattle.layout.specs.Sizes.{head, headerAt};
+ghost use Rattle.layout.specs.Places.{rowPart};
+ghost use Rattle.calls.specs.Insert.{startChunk, turnDense, intoRow};
+ghost use Rattle.insert_plan.specs.Ready.{RowReady};
 use calls::plan::Plan;
 use layout::head;
 use layout::owners;
 use layout::walk;
 use numbers::place as element;
+use numbers::power;
 use sparse::Place;
 
 // A new sparse chunk: 6 where it needs an overflow entry and none is left, then 7 where no row is free.
 pub fn begin(pages: &[u64], rows: &[u32], blocks: &[u32], table: &[u64], c: u64) -> Plan
-    ensures { λ q. ⌜ q ≡ planBegin (memOf (pages .entry) (rows .entry) (blocks .entry) (table .entry)) c (freeRow (memOf (pages .entry) (rows .entry) (blocks .entry) (table .entry))) ⌝ }
+    ensures { λ q. ⌜ (let x = memOf (pages .entry) (rows .entry) (blocks .entry) (table .entry) in q ≡ startChunk x c) ⌝ }
 {
     let h = head::read(table);
     if !walk::head_is(h, pages, rows, blocks, table) {
@@ -33,7 +36,7 @@ pub fn begin(pages: &[u64], rows: &[u32], blocks: &[u32], table: &[u64], c: u64)
 
 // A full row r of l members gets one more: 8 where no page is free.
 pub fn turn(pages: &[u64], rows: &[u32], blocks: &[u32], table: &[u64], r: u64, l: usize) -> Plan
-    ensures { λ q. ⌜ q ≡ planTurn (memOf (pages .entry) (rows .entry) (blocks .entry) (table .entry)) r l (freePage (memOf (pages .entry) (rows .entry) (blocks .entry) (table .entry))) ⌝ }
+    ensures { λ q. ⌜ (let x = memOf (pages .entry) (rows .entry) (blocks .entry) (table .entry) in q ≡ turnDense x r l) ⌝ }
 {
     let h = head::read(table);
     if !walk::head_is(h, pages, rows, blocks, table) {
@@ -49,30 +52,32 @@ pub fn turn(pages: &[u64], rows: &[u32], blocks: &[u32], table: &[u64], r: u64, 
     Plan::Refuse(8)
 }
 
-// Into a row of n places from a on with l members; w is the chunk's word. A member is never a promotion.
+// Into row r of l members. A member is never a promotion.
 pub fn row(
     pages: &[u64],
     rows: &[u32],
     blocks: &[u32],
     table: &[u64],
     o: u64,
-    w: u64,
-    a: usize,
-    n: usize,
+    r: u64,
     l: usize,
 ) -> Plan
-    requires { ⌜ (a + n ≤ length (now rows)) × (l ≤ n) × (o < 2 ^ 32) × (1 ≤ w) ⌝ }
-    ensures { λ q. ⌜ q ≡ planRow (memOf (pages .entry) (rows .entry) (blocks .entry) (table .entry)) w a n l (spotIn (take n (drop a (now (rows .entry)))) l o) ⌝ }
+    requires { ⌜ RowReady (now rows) r l (headerAt (now table)) × (o < 2 ^ 32) ⌝ }
+    ensures { λ q. ⌜ (let x = memOf (pages .entry) (rows .entry) (blocks .entry) (table .entry) in
+        q ≡ intoRow x r l (spotIn (rowPart (head x) (x .rows) r) l o)) ⌝ }
 {
+    let m = element::at(table, 1);
+    let n = m as usize;
+    let a = power::times(r, m) as usize;
     let e = a + n;
     match sparse::spot(&rows[a..e], l, o as u32) {
         Place::Found(_) => Plan::Known,
         Place::Free(k) => {
             let left = n - l;
             if 0 < left {
-                return Plan::Enter(a, n, l, k, w);
+                return Plan::Enter(r, l, k);
             }
-            turn(pages, rows, blocks, table, (w - 1) / 2048, l)
+            turn(pages, rows, blocks, table, r, l)
         }
     }
 }

@@ -12,11 +12,12 @@ use lib.Seq.{drop-drop, set-getD}
 use Rattle.dense.specs.Bits.{digit, bit, isSet, withBit}
 use Rattle.dense.proofs.Bits.{isSet-one}
 use Rattle.layout.specs.Mem.{mem}
+use Rattle.layout.specs.Sizes.{wide, headerAt}
+use Rattle.layout.specs.Places.{pagePart}
 use Rattle.document.specs.declared.answer.Truth.the-variants as truth
-use Rattle.layout.specs.Writes.{putPart}
-use Rattle.calls.specs.Insert.{told}
+use Rattle.layout.specs.Writes.{putPart, putPage}
+use Rattle.calls.specs.Insert.{intoPage, acted, told}
 use Rattle.calls.specs.declared.plan.Plan.the-variants.{Known, Mark}
-use Rattle.inserts.specs.Ways.{acted}
 
 -- ---- a bit that is set already
 
@@ -44,12 +45,22 @@ put-same xs a n =
 
 -- ---- the plan for a page
 
-module _ (pages rows b t : List ℕ) (c o a n : ℕ) (k : Bool) (p : List ℕ) (e : k ≡ not (isSet (take n (drop a pages)) o)) (f : p ≡ putPart pages a n (withBit (take n (drop a pages)) o)) where
-  marked-if : (v : Bool) → isSet (take n (drop a pages)) o ≡ v → told (truth.Is k) (mem p rows b t) ≡ acted (mem pages rows b t) c o (cond v Known (Mark a n))
-  marked-if true g =
-      ap₂ (λ (i : Bool) (u : List ℕ). told (truth.Is i) (mem u rows b t)) (e ∙ ap not g)
-      (f ∙ (ap (putPart pages a n) (with-same (take n (drop a pages)) o g) ∙ put-same pages a n))
-  marked-if false g = ap₂ (λ (i : Bool) (u : List ℕ). told (truth.Is i) (mem u rows b t)) (e ∙ ap not g) f
+module _ (pages rows b t : List ℕ) (c o q a n : ℕ) (ea : a ≡ q * wide (headerAt t)) (en : n ≡ wide (headerAt t)) (k : Bool) (p : List ℕ)
+    (e : k ≡ not (isSet (take n (drop a pages)) o)) (f : p ≡ putPart pages a n (withBit (take n (drop a pages)) o)) where
+  abbrev page : List ℕ
+  page = pagePart (headerAt t) pages q
 
-  pub page-marked : told (truth.Is k) (mem p rows b t) ≡ acted (mem pages rows b t) c o (cond (isSet (take n (drop a pages)) o) Known (Mark a n))
-  page-marked = marked-if (isSet (take n (drop a pages)) o) refl
+  answered : k ≡ not (isSet page o)
+  answered = e ∙ ap₂ (λ (i j : ℕ). not (isSet (take j (drop i pages)) o)) ea en
+
+  put : p ≡ putPage (headerAt t) pages q (withBit page o)
+  put = f ∙ ap₂ (λ (i j : ℕ). putPart pages i j (withBit (take j (drop i pages)) o)) ea en
+
+  marked-if : (v : Bool) → isSet page o ≡ v → told (truth.Is k) (mem p rows b t) ≡ acted (mem pages rows b t) c o (cond v Known (Mark q))
+  marked-if true g =
+      ap₂ (λ (i : Bool) (u : List ℕ). told (truth.Is i) (mem u rows b t)) (answered ∙ ap not g)
+      (put ∙ (ap (putPage (headerAt t) pages q) (with-same page o g) ∙ put-same pages (q * wide (headerAt t)) (wide (headerAt t))))
+  marked-if false g = ap₂ (λ (i : Bool) (u : List ℕ). told (truth.Is i) (mem u rows b t)) (answered ∙ ap not g) put
+
+  pub page-marked : told (truth.Is k) (mem p rows b t) ≡ acted (mem pages rows b t) c o (intoPage (mem pages rows b t) o q)
+  page-marked = marked-if (isSet page o) refl

@@ -7,13 +7,11 @@ use mathlib.Core.Bool.{Bool}
 use Rattle.numbers.specs.Ids.{splitOf}
 use Rattle.numbers.specs.declared.Split.the-variants as split
 use Rattle.layout.specs.Mem.{Mem}
-use Rattle.layout.specs.Short.{wordIn}
 use Rattle.document.specs.declared.answer.Truth.{Truth}
 use Rattle.document.specs.declared.answer.Truth.the-variants as truth
-use Rattle.calls.specs.Reading.{spotIf}
-use Rattle.calls.specs.Insert.{planWord, preparedSpot, told, insertBy, preparedBy}
-use Rattle.inserts.specs.Calls.{refusalOf}
-use Rattle.inserts.specs.Ways.{acted, Into, Short}
+use Rattle.calls.specs.Insert.{insertPlan, preparedPlan, acted, told, insertBy, preparedBy}
+use Rattle.inserts.specs.Gate.{refusalOf}
+use Rattle.inserts.specs.Ways.{Into, Short}
 use Rattle.inserts.specs.declared.direct.Direct.{Direct}
 use Rattle.inserts.specs.declared.direct.Direct.the-variants.{Is, Elsewhere}
 use Rattle.inserts.proofs.Gates.{insert-at, prepared-at}
@@ -28,15 +26,15 @@ unfolding Short
 short-none x z = refl
 
 -- a bit was set on the spot
-pub into-is : (x : Mem) (c o : ℕ) (b : Bool) (y : Mem) → told (truth.Is b) y ≡ acted x c o (planWord x c o (wordIn (x .table) c)) → told (truth.Is b) y ≡ acted x c o (preparedSpot x o (spotIf x (wordIn (x .table) c))) → Into x c o (Is b) y
+pub into-is : (x : Mem) (c o : ℕ) (b : Bool) (y : Mem) → told (truth.Is b) y ≡ acted x c o (insertPlan x c o)
+    → told (truth.Is b) y ≡ acted x c o (preparedPlan x c o) → Into x c o (Is b) y
 unfolding Into
 into-is x c o b y e f = (e, f)
 
 module _ (x y : Mem) (z : ℤ) (n : ℕ) (e : n ≡ refusalOf (x .table)) (o : n ≡ 0) (s : ℕ) (es : s ≡ getD (x .table) 0 0) (c k : ℕ) (f : split.At c k ≡ splitOf s z) where
   pub short-of : (r : Direct) → Into x c k r y → Short x z r y
   unfolding Into Short
-  short-of (Is b) i =
-      (i .0 ∙ insert-at x z n e o s es c k f (planWord x c k (wordIn (x .table) c)) refl, i .1 ∙ prepared-at x z n e o s es c k f (preparedSpot x k (spotIf x (wordIn (x .table) c))) refl)
+  short-of (Is b) i = (i .0 ∙ insert-at x z n e o s es c k f, i .1 ∙ prepared-at x z n e o s es c k f)
   short-of Elsewhere i = i
 
 module _ (x y : Mem) (z : ℤ) (r : Direct) (i : Short x z r y) where

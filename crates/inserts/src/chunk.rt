@@ -1,18 +1,30 @@
 // An offset of any chunk: into the part that the chunk's word names. Only a new chunk and a row need a plan.
 ghost use mathlib.Core.Path.{_≡_};
-ghost use Prim.Native.Nat.{_^_, _≤_, _<_};
+ghost use Prim.Native.Nat.{ℕ, _^_, _≤_, _<_};
 ghost use lib.ListN.{getD};
 ghost use Rattle.layout.specs.Mem.{memOf};
-ghost use Rattle.layout.specs.Short.{wordIn};
-ghost use Rattle.calls.specs.Reading.{spotIf};
-ghost use Rattle.calls.specs.Insert.{planWord, preparedSpot, told};
-ghost use Rattle.inserts.specs.Ways.{acted};
+ghost use Rattle.layout.specs.Places.{decoded};
+ghost use Rattle.layout.specs.declared.place.Place.the-variants.{Sparse};
+ghost use Rattle.calls.specs.Insert.{insertPlan, preparedPlan, acted, told};
 use crate::write;
 use document::answer::Truth;
 use layout::find;
 use layout::find::Spot;
 use layout::find::Word;
+use layout::place;
+use layout::place::Place;
 use numbers::place as element;
+
+// The row that a sparse chunk's word names.
+fn row_of(w: u64) -> u64
+    ensures { λ r. ⌜ ((k l : ℕ) → decoded w ≡ Sparse k l → r ≡ k) ⌝ }
+{
+    match place::decode(w) {
+        Place::Absent => 0,
+        Place::Sparse(r, _) => r,
+        Place::Dense(_) => 0,
+    }
+}
 
 // Offset o of chunk c, where chunks have 2^s ids.
 pub fn put(
@@ -25,7 +37,9 @@ pub fn put(
     o: u64,
 ) -> Truth
     requires { ⌜ (9 ≤ s) × (s ≤ 25) × (s ≡ getD (now table) 0 0) × (c < 2 ^ 62) × (o < 2 ^ s) ⌝ }
-    ensures { λ r. ⌜ told r (memOf (pages .exit) (rows .exit) (blocks .entry) (table .exit)) ≡ acted (memOf (pages .entry) (rows .entry) (blocks .entry) (table .entry)) c o (planWord (memOf (pages .entry) (rows .entry) (blocks .entry) (table .entry)) c o (wordIn (now (table .entry)) c)) ⌝ }
+    ensures { λ r. ⌜ (let x = memOf (pages .entry) (rows .entry) (blocks .entry) (table .entry) in
+        let y = memOf (pages .exit) (rows .exit) (blocks .entry) (table .exit) in
+        told r y ≡ acted x c o (insertPlan x c o)) ⌝ }
 {
     let Word::Is(w) = find::word_of(table, c) else {
         return Truth::Refused(3);
@@ -41,8 +55,8 @@ pub fn put(
             let q = insert_plan::begin(pages, rows, blocks, table, c);
             write::act(pages, rows, table, c, o, q)
         }
-        Spot::Row(a, n, l) => {
-            let q = insert_plan::row(pages, rows, blocks, table, o, w, a, n, l);
+        Spot::Row(_, _, l) => {
+            let q = insert_plan::row(pages, rows, blocks, table, o, row_of(w), l);
             write::act(pages, rows, table, c, o, q)
         }
         Spot::Page(a, n) => Truth::Is(write::mark(pages, a, n, o)),
@@ -61,7 +75,9 @@ pub fn put_prepared(
     o: u64,
 ) -> Truth
     requires { ⌜ (9 ≤ s) × (s ≤ 25) × (s ≡ getD (now table) 0 0) × (c < 2 ^ 62) × (o < 2 ^ s) ⌝ }
-    ensures { λ r. ⌜ told r (memOf (pages .exit) (rows .entry) (blocks .entry) (table .entry)) ≡ acted (memOf (pages .entry) (rows .entry) (blocks .entry) (table .entry)) c o (preparedSpot (memOf (pages .entry) (rows .entry) (blocks .entry) (table .entry)) o (spotIf (memOf (pages .entry) (rows .entry) (blocks .entry) (table .entry)) (wordIn (now (table .entry)) c))) ⌝ }
+    ensures { λ r. ⌜ (let x = memOf (pages .entry) (rows .entry) (blocks .entry) (table .entry) in
+        let y = memOf (pages .exit) (rows .entry) (blocks .entry) (table .entry) in
+        told r y ≡ acted x c o (preparedPlan x c o)) ⌝ }
 {
     let Word::Is(w) = find::word_of(table, c) else {
         return Truth::Refused(3);

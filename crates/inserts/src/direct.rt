@@ -1,4 +1,4 @@
-// The short way of both inserts, for the chunk that takes most ids: dense, with a direct entry, in an open set. It is small enough to be compiled into each call.
+// The short way of both inserts, for the chunk that takes most ids: dense, with a direct entry, in an open set. Small enough to be compiled into each call.
 ghost use mathlib.Core.Path.{_≡_};
 ghost use Prim.Native.Nat.{_^_, _≤_, _<_};
 ghost use lib.ListN.{getD};
@@ -30,7 +30,9 @@ pub fn into(
     o: u64,
 ) -> Direct
     requires { ⌜ (9 ≤ s) × (s ≤ 25) × (s ≡ getD (now table) 0 0) × (c < 2 ^ 62) × (o < 2 ^ s) ⌝ }
-    ensures { λ r. ⌜ Into (memOf (pages .entry) (rows .entry) (blocks .entry) (table .entry)) c o r (memOf (pages .exit) (rows .entry) (blocks .entry) (table .entry)) ⌝ }
+    ensures { λ r. ⌜ (let x = memOf (pages .entry) (rows .entry) (blocks .entry) (table .entry) in
+        let y = memOf (pages .exit) (rows .entry) (blocks .entry) (table .entry) in
+        Into x c o r y) ⌝ }
 {
     if element::at(table, 2) <= c {
         return Direct::Elsewhere;
@@ -52,7 +54,9 @@ pub fn into(
 
 // An id. The first test spares a test for each header word.
 pub fn put(pages: &mut [u64], rows: &[u32], blocks: &[u32], table: &[u64], id: i64) -> Direct
-    ensures { λ r. ⌜ Short (memOf (pages .entry) (rows .entry) (blocks .entry) (table .entry)) id r (memOf (pages .exit) (rows .entry) (blocks .entry) (table .entry)) ⌝ }
+    ensures { λ r. ⌜ (let x = memOf (pages .entry) (rows .entry) (blocks .entry) (table .entry) in
+        let y = memOf (pages .exit) (rows .entry) (blocks .entry) (table .entry) in
+        Short x id r y) ⌝ }
 {
     if table.len() < 16 {
         return Direct::Elsewhere;

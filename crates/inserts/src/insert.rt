@@ -23,7 +23,9 @@ fn anywhere(
     table: &mut [u64],
     id: i64,
 ) -> Truth
-    ensures { λ r. ⌜ told r (memOf (pages .exit) (rows .exit) (blocks .entry) (table .exit)) ≡ insertBy (memOf (pages .entry) (rows .entry) (blocks .entry) (table .entry)) id ⌝ }
+    ensures { λ r. ⌜ (let x = memOf (pages .entry) (rows .entry) (blocks .entry) (table .entry) in
+        let y = memOf (pages .exit) (rows .exit) (blocks .entry) (table .exit) in
+        told r y ≡ insertBy x id) ⌝ }
 {
     let n = gate::refusal(table);
     if n != 0 {
@@ -84,7 +86,9 @@ pub fn set(
 
 // The whole way of the prepared insert.
 fn prepared(pages: &mut [u64], rows: &[u32], blocks: &[u32], table: &[u64], id: i64) -> Truth
-    ensures { λ r. ⌜ told r (memOf (pages .exit) (rows .entry) (blocks .entry) (table .entry)) ≡ preparedBy (memOf (pages .entry) (rows .entry) (blocks .entry) (table .entry)) id ⌝ }
+    ensures { λ r. ⌜ (let x = memOf (pages .entry) (rows .entry) (blocks .entry) (table .entry) in
+        let y = memOf (pages .exit) (rows .entry) (blocks .entry) (table .entry) in
+        told r y ≡ preparedBy x id) ⌝ }
 {
     let n = gate::refusal(table);
     if n != 0 {

@@ -3,7 +3,7 @@ ghost use mathlib.Core.Path.{_≡_};
 ghost use mathlib.Core.List.{List};
 ghost use mathlib.Core.Bool.{not};
 ghost use Prim.Native.Nat.{ℕ, _+_, _*_, _^_, _≤_, _<_};
-ghost use lib.ListN.{length, getD, take, drop};
+ghost use lib.ListN.{length, take, drop};
 ghost use Rattle.sparse.specs.Edit.{insertedAt};
 ghost use Rattle.dense.specs.Bits.{isSet, withBit, withRow};
 ghost use Rattle.layout.specs.Mem.{mem};
@@ -11,45 +11,52 @@ ghost use Rattle.document.specs.Sizes.{InRange, top};
 ghost use Rattle.layout.specs.Sizes.{wide, headerAt, overCount};
 ghost use Rattle.layout.specs.Places.{encoded, rowPart, pagePart};
 ghost use Rattle.layout.specs.declared.place.Place.the-variants.{Sparse};
-ghost use Rattle.layout.specs.Writes.{putPart, putWord, putRowOwner, putRow};
-ghost use Rattle.calls.specs.Insert.{answerOf, actBy, told};
-ghost use Rattle.insert_plan.specs.Ready.{Ready};
+ghost use Rattle.layout.specs.Writes.{putPart, putWord, putRowOwner, putRow, putPage};
+ghost use Rattle.calls.specs.Insert.{acted, told};
+ghost use Rattle.insert_plan.specs.Ready.{MarkReady, EnterReady, Ready};
 use calls::plan::Plan;
 use document::answer::Truth;
 use document::sizes::Sizes;
 use layout::head;
 use layout::place;
 use layout::write;
+use numbers::place as element;
 use numbers::power;
 use steps::turn;
 
 // A bit of a page of n words from a on, and whether it was clear.
 pub fn mark(pages: &mut [u64], a: usize, n: usize, o: u64) -> bool
     requires { ⌜ (a + n ≤ length (now pages)) × (o < 64 * n) ⌝ }
-    ensures { λ b. ⌜ (b ≡ not (isSet (take n (drop a (now (pages .entry)))) o)) × (now (pages .exit) ≡ putPart (now (pages .entry)) a n (withBit (take n (drop a (now (pages .entry)))) o)) ⌝ }
+    ensures { λ b. ⌜ (let page = take n (drop a (now (pages .entry))) in
+        (b ≡ not (isSet page o)) × (now (pages .exit) ≡ putPart (now (pages .entry)) a n (withBit page o))) ⌝ }
 {
     let e = a + n;
     dense::insert(&mut pages[a..e], o)
 }
 
-// An offset more in a row of n places from a on with l members: its place is k, the chunk's word w.
-pub fn enter(
-    rows: &mut [u32],
-    table: &mut [u64],
-    c: u64,
-    o: u64,
-    a: usize,
-    n: usize,
-    l: usize,
-    k: usize,
-    w: u64,
-)
-    requires { ⌜ (a + n ≤ length (now rows)) × (k ≤ l) × (l < n) × (o < 2 ^ 32) × (w < 2 ^ 28) × (c < 2 ^ 62) × (getD (now table) 2 0 ≤ c → (getD (now table) 2 0 ≤ 262144) × (overCount (now table) ≤ 65536)) ⌝ }
-    ensures { λ _. ⌜ (now (rows .exit) ≡ putPart (now (rows .entry)) a n (insertedAt (take n (drop a (now (rows .entry)))) l k o)) × (now (table .exit) ≡ putWord (headerAt (now (table .entry))) (now (table .entry)) c (w + 1)) ⌝ }
+// Offset o of page p.
+pub fn mark_page(pages: &mut [u64], h: Sizes, p: u64, o: u64)
+    requires { ⌜ MarkReady (now pages) o p h ⌝ }
+    ensures { λ _. ⌜ now (pages .exit) ≡ putPage h (now (pages .entry)) p (withBit (pagePart h (now (pages .entry)) p) o) ⌝ }
 {
-    let e = a + n;
+    let s = h.s;
+    let a = power::scaled(p, s - 6) as usize;
+    let n = power::pow2(s - 6) as usize;
+    mark(pages, a, n, o);
+}
+
+// Offset o of chunk c at place k of row r, which had l members.
+pub fn enter(rows: &mut [u32], table: &mut [u64], c: u64, o: u64, r: u64, l: usize, k: usize)
+    requires { ⌜ EnterReady (now rows) (now table) c o r l k (headerAt (now table)) ⌝ }
+    ensures { λ _. ⌜ (let h = headerAt (now (table .entry)) in
+        (now (rows .exit) ≡ putRow h (now (rows .entry)) r (insertedAt (rowPart h (now (rows .entry)) r) l k o))
+        × (now (table .exit) ≡ putWord h (now (table .entry)) c (encoded (Sparse r (l + 1))))) ⌝ }
+{
+    let m = element::at(table, 1);
+    let a = power::times(r, m) as usize;
+    let e = a + m as usize;
     sparse::insert_at(&mut rows[a..e], l, k, o as u32);
-    write::set_word(table, c, w + 1);
+    write::set_word(table, c, place::row_word(r, l as u64 + 1));
 }
 
 // A free row r with one offset.
@@ -82,8 +89,10 @@ pub fn fill(words: &mut [u64], row: &[u32], l: usize, s: u64, o: u64)
 
 // Page p gets the l members of row r and offset o.
 pub fn turn_page(pages: &mut [u64], rows: &[u32], h: Sizes, r: u64, l: usize, p: u64, o: u64)
-    requires { ⌜ InRange h × (r < h .r) × (p < h .p) × (h .r * h .m ≤ length (now rows)) × (h .p * wide h ≤ length (now pages)) × (l ≤ h .m) × (o < top h) ⌝ }
-    ensures { λ _. ⌜ now (pages .exit) ≡ putPart (now (pages .entry)) (p * wide h) (wide h) (withBit (withRow (pagePart h (now (pages .entry)) p) 0 (rowPart h (now (rows .entry)) r) (top h) l) o) ⌝ }
+    requires { ⌜ InRange h × (r < h .r) × (p < h .p) × (h .r * h .m ≤ length (now rows)) × (h .p * wide h ≤ length (now pages))
+        × (l ≤ h .m) × (o < top h) ⌝ }
+    ensures { λ _. ⌜ now (pages .exit) ≡ putPage h (now (pages .entry)) p
+        (withBit (withRow (pagePart h (now (pages .entry)) p) 0 (rowPart h (now (rows .entry)) r) (top h) l) o) ⌝ }
 {
     let s = h.s;
     let a = head::row_at(h, r) as usize;
@@ -96,17 +105,19 @@ pub fn turn_page(pages: &mut [u64], rows: &[u32], h: Sizes, r: u64, l: usize, p:
 // What the plan says, of chunk c and offset o, whatever the block counts are.
 pub fn act(pages: &mut [u64], rows: &mut [u32], table: &mut [u64], c: u64, o: u64, q: Plan) -> Truth
     requires { ⌜ Ready (now pages) (now rows) (now table) c o q ⌝ }
-    ensures { λ r. ⌜ ((b : List ℕ) → told r (mem (now (pages .exit)) (now (rows .exit)) b (now (table .exit))) ≡ told (answerOf q) (actBy (mem (now (pages .entry)) (now (rows .entry)) b (now (table .entry))) c o q)) ⌝ }
+    ensures { λ r. ⌜ ((b : List ℕ) → told r (mem (now (pages .exit)) (now (rows .exit)) b (now (table .exit)))
+        ≡ acted (mem (now (pages .entry)) (now (rows .entry)) b (now (table .entry))) c o q) ⌝ }
 {
     match q {
         Plan::Refuse(n) => Truth::Refused(n),
         Plan::Known => Truth::Is(false),
-        Plan::Mark(a, n) => {
-            mark(pages, a, n, o);
+        Plan::Mark(p) => {
+            let h = head::read(table);
+            mark_page(pages, h, p, o);
             Truth::Is(true)
         }
-        Plan::Enter(a, n, l, k, w) => {
-            enter(rows, table, c, o, a, n, l, k, w);
+        Plan::Enter(r, l, k) => {
+            enter(rows, table, c, o, r, l, k);
             Truth::Is(true)
         }
         Plan::Begin(r) => {

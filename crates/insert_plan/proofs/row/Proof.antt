@@ -1,19 +1,35 @@
 -- A member stays; a row with room takes one more; a full one turns into a page. Assumes nothing.
+use Prim.Native.Nat.{_+_, _≤_}
 use native.Mathlib.Omega.{arith}
+use lib.ListN.{length}
 use Rattle.layout.specs.Mem.{Mem, memOf}
-use Rattle.insert_plan.proofs.Plans.{row-known, row-enter, row-turn}
+use Rattle.layout.specs.Sizes.{head}
+use Rattle.insert_plan.proofs.Plans.{row-inside, row-known, row-enter, row-turn}
 use borrow.Author.Needs.{needs}
 use Rattle.insert_plan.proofs.row.Statement.{statement}
 use Rattle.insert_plan.proofs.row.Tie as tie
 
-abbrev memory : tie.Start → Mem
-memory c = memOf (c .args .pages) (c .args .rows) (c .args .blocks) (c .args .table)
+module _ (c : tie.After-times) where
+  abbrev start : tie.Start
+  start = c .before .before .before .before .before .before
+
+  abbrev memory : Mem
+  memory = memOf (start .args .pages) (start .args .rows) (start .args .blocks) (start .args .table)
+
+  inside : c .times .result + c .before .at .result ≤ length (memory .rows)
+  inside = row-inside (start .args .r) (head memory .m) _ _ _ (start .pre .0 .fits) (c .before .at .ensures) (c .times .ensures)
+
+at-requires : tie.Need-at-requires
+at-requires c κs = search needs
+
+times-requires : tie.Need-times-requires
+times-requires c κs = search needs
 
 add-e : tie.Need-add-e
-add-e c = search needs
+add-e c = omega (arith, inside c, start c .good)
 
 mul-spot : tie.Need-mul-spot
-mul-spot c = search needs
+mul-spot c = omega (arith, inside c, start c .good)
 
 sub-spot : tie.Need-sub-spot
 sub-spot c = search needs
@@ -22,7 +38,7 @@ part-spot-start : tie.Need-part-spot-start
 part-spot-start c = search needs
 
 part-spot-end : tie.Need-part-spot-end
-part-spot-end c = search needs
+part-spot-end c = inside c
 
 cast-spot : tie.Need-cast-spot
 cast-spot c = search needs
@@ -40,24 +56,36 @@ sub-left : tie.Need-sub-left
 sub-left c = search needs
 
 returns : tie.Need-returns
-returns c = row-enter (memory (c .before .before .before .before .before .before .before .before .before .before)) (c .before .before .before .before .before .before .before .before .before .before .args .w) (c .before .before .before .before .before .before .before .before .before .before .args .a) (c .before .before .before .before .before .before .before .before .before .before .args .n) (c .before .before .before .before .before .before .before .before .before .before .args .l) (c .before .before .before .before .before .before .before .before .before .before .args .o) _ (c .before .before .before .before .spot .ensures) _ (c .before .before .k .given .1) (omega (arith, c .if1 .taken))
-
-sub-turn : tie.Need-sub-turn
-sub-turn c = search needs
+returns c =
+    let k = c .before .before .before .before .before .before in
+    let a = start k .args in
+    row-enter (memory k) (a .r) (a .l) (a .o) _ _ (k .before .at .ensures) (k .times .ensures) _
+    (c .before .before .before .before .spot .ensures) _ (c .before .before .k .given .1) (omega (arith, c .if1 .taken))
 
 turn-requires : tie.Need-turn-requires
 turn-requires c κs = search needs
 
 returns-2 : tie.Need-returns-2
-returns-2 c = row-known (memory (c .before .before .before .before .before .before .before .before)) (c .before .before .before .before .before .before .before .before .args .w) (c .before .before .before .before .before .before .before .before .args .a) (c .before .before .before .before .before .before .before .before .args .n) (c .before .before .before .before .before .before .before .before .args .l) (c .before .before .before .before .before .before .before .before .args .o) _ (c .before .before .spot .ensures) _ (c .enum-told .given .1)
+returns-2 c =
+    let k = c .before .before .before .before in
+    let a = start k .args in
+    row-known (memory k) (a .r) (a .l) (a .o) _ _ (k .before .at .ensures) (k .times .ensures) _ (c .before .before .spot .ensures) _
+    (c .enum-told .given .1)
 
 returns-3 : tie.Need-returns-3
-returns-3 c = row-turn (memory (c .before .before .before .before .before .before .before .before .before .before .before)) (c .before .before .before .before .before .before .before .before .before .before .before .args .w) (c .before .before .before .before .before .before .before .before .before .before .before .args .a) (c .before .before .before .before .before .before .before .before .before .before .before .args .n) (c .before .before .before .before .before .before .before .before .before .before .before .args .l) (c .before .before .before .before .before .before .before .before .before .before .before .args .o) _ (c .before .before .before .before .before .spot .ensures) _ (c .before .before .before .k .given .1) (omega (arith, c .before .if1 .left)) _ (c .turn .ensures)
+returns-3 c =
+    let k = c .before .before .before .before .before .before .before in
+    let a = start k .args in
+    row-turn (memory k) (a .r) (a .l) (a .o) _ _ (k .before .at .ensures) (k .times .ensures) _
+    (c .before .before .before .before .before .spot .ensures) _ (c .before .before .before .k .given .1)
+    (omega (arith, c .before .if1 .left)) _ (c .turn .ensures)
 
 pub row-spec : {M : Type 1} → statement M
 row-spec =
     tie.close
     (tie.spec
+    at-requires
+    times-requires
     add-e
     mul-spot
     sub-spot
@@ -69,7 +97,6 @@ row-spec =
     enum-known-k
     sub-left
     returns
-    sub-turn
     turn-requires
     returns-2
     returns-3)

@@ -1,4 +1,4 @@
--- By the part that the chunk's word names. Assumes nothing.
+-- By the place that the chunk's word names. Assumes nothing.
 use mathlib.Core.Path.{_≡_, sym, _∙_, ap, subst}
 use Prim.Native.Nat.{ℕ, _+_, _*_, _≤_, _<_}
 use lib.ListN.{length}
@@ -7,11 +7,13 @@ use Rattle.layout.specs.Short.{wordIn}
 use Rattle.layout.specs.declared.find.Word.the-variants as word
 use Rattle.layout.specs.declared.find.Spot.{Spot}
 use Rattle.layout.specs.declared.find.Spot.the-variants.{Page}
+use Rattle.layout.specs.declared.place.Place.the-variants.{Sparse}
 use Rattle.calls.specs.Reading.{spotBy}
+use Rattle.calls.specs.Insert.{acted}
+use Rattle.calls.proofs.Places.{Names, none-at}
 use Rattle.insert_plan.specs.Ready.{Ready}
 use Rattle.insert_plan.proofs.Readies.{page-ready, row-ready, ready-begin, ready-row}
-use Rattle.inserts.specs.Ways.{acted}
-use Rattle.inserts.proofs.Chunks.{spot-by, put-bad, put-spot, put-page}
+use Rattle.inserts.proofs.Chunks.{spot-by, named, put-bad, put-place, put-outside, put-page}
 use borrow.Author.Needs.{needs}
 use Rattle.inserts.proofs.chunk.put.Statement.{statement}
 use Rattle.inserts.proofs.chunk.put.Tie as tie
@@ -35,6 +37,13 @@ module _ (c : tie.After-spot-of) where
   page-in : (a n : ℕ) → c .spot-of .result ≡ Page a n → (a + n ≤ length (memory start .pages)) × (start .args .o < 64 * n)
   page-in a n e = page-ready (memory start) (start .args .c) (start .args .o) (start .args .s) (start .pre .2) (start .pre .0) (start .pre .1) (start .pre .3) (start .pre .4) w a n (spotted (Page a n) e)
 
+module _ (c : tie.After-row-of) where
+  abbrev found : tie.After-spot-of
+  found = c .before .before .before .before .before .before .before
+
+  row-is : Names (memory (start found)) (w found) (Sparse (c .row-of .result) (c .before .before .before .before .before .l .given .0 .1 .1 .0))
+  row-is = named (memory (start found)) (w found) _ _ _ _ (spotted found _ (c .before .before .before .before .before .l .given .1)) (c .row-of .ensures)
+
 word-of-requires : tie.Need-word-of-requires
 word-of-requires c κs = search needs
 
@@ -48,7 +57,9 @@ same-length : tie.Need-same-length
 same-length c = search needs
 
 returns : tie.Need-returns
-returns c = let a = c .before .before .before .before .before .before .before .before in put-bad (memory a) (a .args .c) (a .args .o) (sym (c .enum-told .given .1) ∙ c .before .before .word-of .ensures)
+returns c =
+    let a = c .before .before .before .before .before .before .before .before in
+    put-bad (memory a) (a .args .c) (a .args .o) (sym (c .enum-told .given .1) ∙ c .before .before .word-of .ensures)
 
 at-requires : tie.Need-at-requires
 at-requires c κs = search needs
@@ -63,22 +74,35 @@ begin-requires : tie.Need-begin-requires
 begin-requires c κs = search needs
 
 act-requires : tie.Need-act-requires
-act-requires c κs = let a = start (c .before .before .before .before .before .before .before .before .before) in subst (Ready (memory a .pages) (memory a .rows) (memory a .table) _ _) (sym (c .before .before .before .begin .ensures)) (ready-begin (memory a) (a .args .c) (a .args .o) (a .args .s) (a .pre .2) (a .pre .0) (a .pre .1) (a .pre .3) (a .pre .4))
+act-requires c κs =
+    let a = start (c .before .before .before .before .before .before .before .before .before) in
+    subst (Ready (memory a .pages) (memory a .rows) (memory a .table) _ _) (sym (c .before .before .before .begin .ensures))
+    (ready-begin (memory a) (a .args .c) (a .args .o) (a .args .s) (a .pre .2) (a .pre .0) (a .pre .1) (a .pre .3) (a .pre .4))
+
+enum-known-l : tie.Need-enum-known-l
+enum-known-l c = search needs
+
+row-of-requires : tie.Need-row-of-requires
+row-of-requires c κs = search needs
+
+row-requires : tie.Need-row-requires
+row-requires c κs =
+    let a = start (found c) in
+    row-ready (memory a) (a .args .c) (a .args .o) (a .args .s) (a .pre .2) (a .pre .0) (a .pre .1) (a .pre .3) (a .pre .4)
+    (w (found c)) _ _ (row-is c)
+
+act-requires-2 : tie.Need-act-requires-2
+act-requires-2 c κs =
+    let k = c .before .before .before .before in
+    let a = start (found k) in
+    subst (Ready (memory a .pages) (memory a .rows) (memory a .table) _ _) (sym (c .before .before .before .row .ensures))
+    (ready-row (memory a) (a .args .c) (a .args .o) (a .args .s) (a .pre .2) (a .pre .0) (a .pre .1) (a .pre .3) (a .pre .4) (w (found k)) (word-is (found k)) _ _ (row-is k))
 
 enum-known-a : tie.Need-enum-known-a
 enum-known-a c = search needs
 
-row-requires : tie.Need-row-requires
-row-requires c κs = let k = c .before .before .before .before .before .before in let a = start k in row-ready (memory a) (a .args .c) (a .args .o) (a .args .s) (a .pre .2) (a .pre .0) (a .pre .1) (a .pre .3) (a .pre .4) (w k) _ _ _ (spotted k _ (c .before .before .before .before .a .given .1))
-
-act-requires-2 : tie.Need-act-requires-2
-act-requires-2 c κs = let k = c .before .before .before .before .before .before .before .before .before .before in let a = start k in subst (Ready (memory a .pages) (memory a .rows) (memory a .table) _ _) (sym (c .before .before .before .row .ensures)) (ready-row (memory a) (a .args .c) (a .args .o) (a .args .s) (a .pre .2) (a .pre .0) (a .pre .1) (a .pre .3) (a .pre .4) (w k) (word-is k) _ _ _ (spotted k _ (c .before .before .before .before .before .before .before .before .a .given .1)))
-
-enum-known-a-2 : tie.Need-enum-known-a-2
-enum-known-a-2 c = search needs
-
 mark-requires : tie.Need-mark-requires
-mark-requires c κs = page-in (c .before .before .before .before) _ _ (c .before .before .a2 .given .1)
+mark-requires c κs = page-in (c .before .before .before .before) _ _ (c .before .before .a .given .1)
 
 enum-told-3 : tie.Need-enum-told-3
 enum-told-3 c = search needs
@@ -93,7 +117,12 @@ same-length-4 : tie.Need-same-length-4
 same-length-4 c = search needs
 
 returns-2 : tie.Need-returns-2
-returns-2 c = let k = c .before .before .before .before .before .before .before .before .before .before .before .before .before .before .before .before in let a = start k in c .before .before .before .before .before .before .act .ensures (memory a .blocks) ∙ (ap (acted (memory a) (a .args .c) (a .args .o)) (c .before .before .before .before .before .before .before .before .before .before .begin .ensures) ∙ put-spot (memory a) (a .args .c) (a .args .o) (w k) (word-is k) _ (spotted k _ (c .before .before .before .before .before .before .before .before .before .before .before .before .before .before .enum-told2 .given .1)))
+returns-2 c =
+    let k = c .before .before .before .before .before .before .before .before .before .before .before .before .before .before .before .before in
+    let a = start k in
+    c .before .before .before .before .before .before .act .ensures (memory a .blocks)
+    ∙ (ap (acted (memory a) (a .args .c) (a .args .o)) (c .before .before .before .before .before .before .before .before .before .before .begin .ensures)
+    ∙ put-place (memory a) (a .args .c) (a .args .o) (w k) (word-is k) _ (none-at (memory a) (w k) (spotted k _ (c .before .before .before .before .before .before .before .before .before .before .before .before .before .before .enum-told2 .given .1))))
 
 same-length-5 : tie.Need-same-length-5
 same-length-5 c = search needs
@@ -105,7 +134,12 @@ same-length-7 : tie.Need-same-length-7
 same-length-7 c = search needs
 
 returns-3 : tie.Need-returns-3
-returns-3 c = let k = c .before .before .before .before .before .before .before .before .before .before .before .before .before .before .before .before .before in let a = start k in c .before .before .before .before .before .before .act2 .ensures (memory a .blocks) ∙ (ap (acted (memory a) (a .args .c) (a .args .o)) (c .before .before .before .before .before .before .before .before .before .before .row .ensures) ∙ put-spot (memory a) (a .args .c) (a .args .o) (w k) (word-is k) _ (spotted k _ (c .before .before .before .before .before .before .before .before .before .before .before .before .before .before .before .a .given .1)))
+returns-3 c =
+    let k = c .before .before .before .before .before .before .before .before .before .before .before in
+    let a = start (found k) in
+    c .before .before .before .before .before .before .act2 .ensures (memory a .blocks)
+    ∙ (ap (acted (memory a) (a .args .c) (a .args .o)) (c .before .before .before .before .before .before .before .before .before .before .row .ensures)
+    ∙ put-place (memory a) (a .args .c) (a .args .o) (w (found k)) (word-is (found k)) _ (row-is k))
 
 same-length-8 : tie.Need-same-length-8
 same-length-8 c = search needs
@@ -118,13 +152,17 @@ returns-4 c =
     let k = c .before .before .before .before .before .before .before in
     let a = start k in
     let m = c .before .before .mark .ensures in
-    put-page (memory a .pages) (memory a .rows) (memory a .blocks) (memory a .table) (a .args .c) (a .args .o) (w k) (word-is k) _ _ (spotted k _ (c .before .before .before .before .before .a2 .given .1)) _ _ (m .0) (m .1)
+    put-page (memory a .pages) (memory a .rows) (memory a .blocks) (memory a .table) (a .args .c) (a .args .o) (w k) (word-is k) _ _
+    (spotted k _ (c .before .before .before .before .before .a .given .1)) _ _ (m .0) (m .1)
 
 same-length-10 : tie.Need-same-length-10
 same-length-10 c = search needs
 
 returns-5 : tie.Need-returns-5
-returns-5 c = let k = c .before .before in let a = start k in put-spot (memory a) (a .args .c) (a .args .o) (w k) (word-is k) _ (spotted k _ (c .enum-told3 .given .1))
+returns-5 c =
+    let k = c .before .before in
+    let a = start k in
+    put-outside (memory a) (a .args .c) (a .args .o) (w k) (word-is k) (spotted k _ (c .enum-told3 .given .1))
 
 pub put-spec : {M : Type 1} → statement M
 put-spec =
@@ -140,10 +178,11 @@ put-spec =
     enum-told-2
     begin-requires
     act-requires
-    enum-known-a
+    enum-known-l
+    row-of-requires
     row-requires
     act-requires-2
-    enum-known-a-2
+    enum-known-a
     mark-requires
     enum-told-3
     same-length-2

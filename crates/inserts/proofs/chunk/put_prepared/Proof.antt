@@ -9,7 +9,8 @@ use Rattle.layout.specs.declared.find.Spot.{Spot}
 use Rattle.layout.specs.declared.find.Spot.the-variants.{Page}
 use Rattle.calls.specs.Reading.{spotBy}
 use Rattle.insert_plan.proofs.Readies.{page-ready}
-use Rattle.inserts.proofs.Chunks.{spot-by, prepared-bad, prepared-spot, prepared-page}
+use Rattle.calls.proofs.Places.{none-at, row-at}
+use Rattle.inserts.proofs.Chunks.{spot-by, prepared-bad, prepared-place, prepared-outside, prepared-page}
 use borrow.Author.Needs.{needs}
 use Rattle.inserts.proofs.chunk.put_prepared.Statement.{statement}
 use Rattle.inserts.proofs.chunk.put_prepared.Tie as tie
@@ -43,7 +44,9 @@ enum-told : tie.Need-enum-told
 enum-told c = search needs
 
 returns : tie.Need-returns
-returns c = let a = c .before .before .before .before .before .before .before in prepared-bad (memory a) (a .args .c) (a .args .o) (sym (c .enum-told .given .1) ∙ c .before .before .word-of .ensures)
+returns c =
+    let a = c .before .before .before .before .before .before .before in
+    prepared-bad (memory a) (a .args .c) (a .args .o) (sym (c .enum-told .given .1) ∙ c .before .before .word-of .ensures)
 
 at-requires : tie.Need-at-requires
 at-requires c κs = search needs
@@ -67,10 +70,18 @@ enum-told-4 : tie.Need-enum-told-4
 enum-told-4 c = search needs
 
 returns-2 : tie.Need-returns-2
-returns-2 c = let k = c .before .before in let a = start k in prepared-spot (memory a) (a .args .c) (a .args .o) (w k) (word-is k) _ (spotted k _ (c .enum-told2 .given .1))
+returns-2 c =
+    let k = c .before .before in
+    let a = start k in
+    prepared-place (memory a) (a .args .c) (a .args .o) (w k) (word-is k) _
+    (none-at (memory a) (w k) (spotted k _ (c .enum-told2 .given .1)))
 
 returns-3 : tie.Need-returns-3
-returns-3 c = let k = c .before .before in let a = start k in prepared-spot (memory a) (a .args .c) (a .args .o) (w k) (word-is k) _ (spotted k _ (c .enum-told3 .given .1))
+returns-3 c =
+    let k = c .before .before in
+    let a = start k in
+    prepared-place (memory a) (a .args .c) (a .args .o) (w k) (word-is k) _
+    (row-at (memory a) (w k) _ _ _ (spotted k _ (c .enum-told3 .given .1)) .names)
 
 same-length : tie.Need-same-length
 same-length c = search needs
@@ -83,7 +94,10 @@ returns-4 c =
     prepared-page (memory a .pages) (memory a .rows) (memory a .blocks) (memory a .table) (a .args .c) (a .args .o) (w k) (word-is k) _ _ (spotted k _ (c .before .before .before .before .before .a .given .1)) _ _ (m .0) (m .1)
 
 returns-5 : tie.Need-returns-5
-returns-5 c = let k = c .before .before in let a = start k in prepared-spot (memory a) (a .args .c) (a .args .o) (w k) (word-is k) _ (spotted k _ (c .enum-told4 .given .1))
+returns-5 c =
+    let k = c .before .before in
+    let a = start k in
+    prepared-outside (memory a) (a .args .c) (a .args .o) (w k) (word-is k) (spotted k _ (c .enum-told4 .given .1))
 
 pub put-prepared-spec : {M : Type 1} → statement M
 put-prepared-spec =

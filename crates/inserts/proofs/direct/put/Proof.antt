@@ -58,7 +58,12 @@ same-length : tie.Need-same-length
 same-length c = search needs
 
 returns-4 : tie.Need-returns-4
-returns-4 c = let k = c .before .before .before .before in let a = start k in short-of (memory a) _ (a .args .id) _ (k .before .before .before .before .before .before .refusal .ensures) (k .before .before .before .before .before .if2 .left) _ (k .before .before .before .before .at .ensures) _ _ (lies k) _ (c .before .before .into .ensures)
+returns-4 c =
+    let k = c .before .before .before .before in
+    let a = start k in
+    short-of (memory a) _ (a .args .id) _ (k .before .before .before .before .before .before .refusal .ensures)
+    (k .before .before .before .before .before .if2 .left) _ (k .before .before .before .before .at .ensures) _ _ (lies k) _
+    (c .before .before .into .ensures)
 
 pub put-spec : {M : Type 1} → statement M
 put-spec =

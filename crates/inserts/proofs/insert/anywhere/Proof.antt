@@ -1,5 +1,5 @@
 -- 3 and 4 first, then the chunk. Assumes nothing.
-use mathlib.Core.Path.{_≡_, refl, _∙_}
+use mathlib.Core.Path.{_≡_, _∙_}
 use Prim.Native.Nat.{_^_, _<_}
 use Rattle.numbers.specs.Ids.{splitOf}
 use Rattle.numbers.specs.declared.Split.the-variants as split
@@ -33,7 +33,9 @@ same-length : tie.Need-same-length
 same-length c = search needs
 
 returns : tie.Need-returns
-returns c = let a = c .before .before .before .before .before .before .before in insert-refused (memory a) (a .args .id) _ (c .before .refusal .ensures) (c .if1 .taken)
+returns c =
+    let a = c .before .before .before .before .before .before .before in
+    insert-refused (memory a) (a .args .id) _ (c .before .refusal .ensures) (c .if1 .taken)
 
 at-requires : tie.Need-at-requires
 at-requires c κs = search needs
@@ -51,10 +53,16 @@ same-length-2 : tie.Need-same-length-2
 same-length-2 c = search needs
 
 returns-2 : tie.Need-returns-2
-returns-2 c = let a = c .before .before .before .before .before .before .before .before .before .before .before .before in insert-negative (memory a) (a .args .id) _ (c .before .before .before .before .before .before .refusal .ensures) (c .before .before .before .before .before .if1 .left) _ (c .before .before .before .at .ensures) (split-is _ (a .args .id) (a .fits .id) _ (c .before .before .split .ensures) _ (c .enum-told .given .1))
+returns-2 c =
+    let a = c .before .before .before .before .before .before .before .before .before .before .before .before in
+    insert-negative (memory a) (a .args .id) _ (c .before .before .before .before .before .before .refusal .ensures)
+    (c .before .before .before .before .before .if1 .left) _ (c .before .before .before .at .ensures)
+    (split-is _ (a .args .id) (a .fits .id) _ (c .before .before .split .ensures) _ (c .enum-told .given .1))
 
 put-requires : tie.Need-put-requires
-put-requires c κs = let k = c .before .before .before in (shifted k .low, shifted k .high, k .before .before .before .before .at .ensures, small k .0, small k .1)
+put-requires c κs =
+    let k = c .before .before .before in
+    (shifted k .low, shifted k .high, k .before .before .before .before .at .ensures, small k .0, small k .1)
 
 same-length-3 : tie.Need-same-length-3
 same-length-3 c = search needs
@@ -66,7 +74,12 @@ same-length-5 : tie.Need-same-length-5
 same-length-5 c = search needs
 
 returns-3 : tie.Need-returns-3
-returns-3 c = let k = c .before .before .before .before .before .before .before .before .before .before in let a = start k in c .before .before .before .before .before .before .put .ensures ∙ insert-at (memory a) (a .args .id) _ (k .before .before .before .before .before .before .before .refusal .ensures) (k .before .before .before .before .before .before .if1 .left) _ (k .before .before .before .before .at .ensures) _ _ (lies k) _ refl
+returns-3 c =
+    let k = c .before .before .before .before .before .before .before .before .before .before in
+    let a = start k in
+    c .before .before .before .before .before .before .put .ensures ∙ insert-at (memory a) (a .args .id) _
+    (k .before .before .before .before .before .before .before .refusal .ensures)
+    (k .before .before .before .before .before .before .if1 .left) _ (k .before .before .before .before .at .ensures) _ _ (lies k)
 
 pub anywhere-spec : {M : Type 1} → statement M
 anywhere-spec =

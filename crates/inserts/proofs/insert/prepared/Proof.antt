@@ -1,5 +1,5 @@
 -- 3 and 4 first, then the chunk. Assumes nothing.
-use mathlib.Core.Path.{_≡_, refl, _∙_}
+use mathlib.Core.Path.{_≡_, _∙_}
 use Prim.Native.Nat.{_^_, _<_}
 use Rattle.numbers.specs.Ids.{splitOf}
 use Rattle.numbers.specs.declared.Split.the-variants as split
@@ -30,7 +30,9 @@ refusal-requires : tie.Need-refusal-requires
 refusal-requires c κs = search needs
 
 returns : tie.Need-returns
-returns c = let a = c .before .before .before .before .before .before in prepare-refused (memory a) (a .args .id) _ (c .before .refusal .ensures) (c .if1 .taken)
+returns c =
+    let a = c .before .before .before .before .before .before in
+    prepare-refused (memory a) (a .args .id) _ (c .before .refusal .ensures) (c .if1 .taken)
 
 at-requires : tie.Need-at-requires
 at-requires c κs = search needs
@@ -45,7 +47,11 @@ enum-told : tie.Need-enum-told
 enum-told c = search needs
 
 returns-2 : tie.Need-returns-2
-returns-2 c = let a = c .before .before .before .before .before .before .before .before .before .before in prepared-negative (memory a) (a .args .id) _ (c .before .before .before .before .before .refusal .ensures) (c .before .before .before .before .if1 .left) _ (c .before .before .before .at .ensures) (split-is _ (a .args .id) (a .fits .id) _ (c .before .before .split .ensures) _ (c .enum-told .given .1))
+returns-2 c =
+    let a = c .before .before .before .before .before .before .before .before .before .before in
+    prepared-negative (memory a) (a .args .id) _ (c .before .before .before .before .before .refusal .ensures)
+    (c .before .before .before .before .if1 .left) _ (c .before .before .before .at .ensures)
+    (split-is _ (a .args .id) (a .fits .id) _ (c .before .before .split .ensures) _ (c .enum-told .given .1))
 
 put-prepared-requires : tie.Need-put-prepared-requires
 put-prepared-requires c κs = let k = c .before in (shifted k .low, shifted k .high, k .before .before .before .before .at .ensures, small k .0, small k .1)
@@ -54,7 +60,12 @@ same-length : tie.Need-same-length
 same-length c = search needs
 
 returns-3 : tie.Need-returns-3
-returns-3 c = let k = c .before .before .before .before in let a = start k in c .before .before .put-prepared .ensures ∙ prepared-at (memory a) (a .args .id) _ (k .before .before .before .before .before .before .refusal .ensures) (k .before .before .before .before .before .if1 .left) _ (k .before .before .before .before .at .ensures) _ _ (lies k) _ refl
+returns-3 c =
+    let k = c .before .before .before .before in
+    let a = start k in
+    c .before .before .put-prepared .ensures ∙ prepared-at (memory a) (a .args .id) _
+    (k .before .before .before .before .before .before .refusal .ensures) (k .before .before .before .before .before .if1 .left) _
+    (k .before .before .before .before .at .ensures) _ _ (lies k)
 
 pub prepared-spec : {M : Type 1} → statement M
 prepared-spec =

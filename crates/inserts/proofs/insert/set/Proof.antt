@@ -3,7 +3,6 @@ use mathlib.Core.Path.{refl, _∙_}
 use Rattle.numbers.proofs.Signs.{hop}
 use Rattle.layout.specs.Mem.{Mem, memOf}
 use Rattle.calls.specs.Insert.{insertBy}
-use Rattle.inserts.proofs.Gates.{set-drops}
 use Rattle.inserts.proofs.Promises.{sets}
 use Rattle.inserts.proofs.Ways.{short-insert, then-insert}
 use borrow.Author.Needs.{needs}
@@ -41,7 +40,10 @@ same-length-4 : tie.Need-same-length-4
 same-length-4 c = search needs
 
 returns : tie.Need-returns
-returns c = let a = c .before .before .before .before .before .before .before .before .before .before .before .before .before in sets (memory a) (a .args .id) (a .fits .id) (set-drops _ _ _ _ refl (short-insert (memory a) _ _ _ (c .before .before .before .before .put .ensures) _ (c .enum-told .given .1) ∙ hop (insertBy (memory a)) (a .args .id) (a .fits .id)))
+returns c =
+    let a = c .before .before .before .before .before .before .before .before .before .before .before .before .before in
+    sets (memory a) (a .args .id) (a .fits .id) refl
+    (short-insert (memory a) _ _ _ (c .before .before .before .before .put .ensures) _ (c .enum-told .given .1) ∙ hop (insertBy (memory a)) (a .args .id) (a .fits .id))
 
 same-length-5 : tie.Need-same-length-5
 same-length-5 c = search needs
@@ -56,7 +58,10 @@ same-length-8 : tie.Need-same-length-8
 same-length-8 c = search needs
 
 returns-2 : tie.Need-returns-2
-returns-2 c = let a = c .before .before .before .before .before .before .before .before .before .before .before .before .before .before .before .before .before .before .before .before .before .before .before .before .before in sets (memory a) (a .args .id) (a .fits .id) (set-drops _ _ _ _ (c .drop-answer .ensures) (then-insert (memory a) _ _ _ (c .before .before .before .before .before .before .before .before .before .before .before .before .before .before .before .before .put .ensures) (c .before .before .before .before .before .before .before .before .before .before .before .before .enum-told2 .given .1) _ _ (c .before .before .before .before .before .before .before .anywhere .ensures) ∙ hop (insertBy (memory a)) (a .args .id) (a .fits .id)))
+returns-2 c =
+    let a = c .before .before .before .before .before .before .before .before .before .before .before .before .before .before .before .before .before .before .before .before .before .before .before .before .before in
+    sets (memory a) (a .args .id) (a .fits .id) (c .drop-answer .ensures)
+    (then-insert (memory a) _ _ _ (c .before .before .before .before .before .before .before .before .before .before .before .before .before .before .before .before .put .ensures) (c .before .before .before .before .before .before .before .before .before .before .before .before .enum-told2 .given .1) _ _ (c .before .before .before .before .before .before .before .anywhere .ensures) ∙ hop (insertBy (memory a)) (a .args .id) (a .fits .id))
 
 pub set-spec : {M : Type 1} → statement M
 set-spec =

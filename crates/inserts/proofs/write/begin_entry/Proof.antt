@@ -23,7 +23,10 @@ same-length : tie.Need-same-length
 same-length c = search needs
 
 returns : tie.Need-returns
-returns c = let a = c .before .before .before .before .before .before .before .before .before .before .args in c .before .before .put-row-owner .ensures ∙ ap (λ (u : List ℕ). putRowOwner (a .h) u (a .r) (a .c + 1)) (c .before .before .before .before .before .before .put-word .ensures ∙ ap (putWord (a .h) (a .table .now) (a .c)) (c .before .before .before .before .before .before .before .row-word .ensures))
+returns c =
+    let a = c .before .before .before .before .before .before .before .before .before .before .args in
+    c .before .before .put-row-owner .ensures ∙ ap (λ (u : List ℕ). putRowOwner (a .h) u (a .r) (a .c + 1))
+    (c .before .before .before .before .before .before .put-word .ensures ∙ ap (putWord (a .h) (a .table .now) (a .c)) (c .before .before .before .before .before .before .before .row-word .ensures))
 
 pub begin-entry-spec : {M : Type 1} → statement M
 begin-entry-spec =

@@ -12,7 +12,10 @@ use Rattle.inserts.proofs.write.begin_row.Statement.{statement}
 use Rattle.inserts.proofs.write.begin_row.Tie as tie
 
 row-in : (c : tie.After-row-at) → c .row-at .result + c .before .before .args .h .m ≤ length (c .before .before .args .rows .now)
-row-in c = let a = c .before .before in omega (arith, c .row-at .ensures, slot-in (a .args .h .m) (a .args .h .r) (a .args .r) (length (a .args .rows .now)) (a .pre .1) (a .pre .2))
+row-in c =
+    let a = c .before .before in
+    omega
+    (arith, c .row-at .ensures, slot-in (a .args .h .m) (a .args .h .r) (a .args .r) (length (a .args .rows .now)) (a .pre .1) (a .pre .2))
 
 row-at-requires : tie.Need-row-at-requires
 row-at-requires c κs = search needs
@@ -42,7 +45,10 @@ same-length : tie.Need-same-length
 same-length c = search needs
 
 returns : tie.Need-returns
-returns c = let a = c .before .before .before .before .before .before .args in put-lent (a .rows .now) _ _ _ _ (c .before .before .before .before .row-at .ensures) refl (λ (w : List ℕ). insertedAt w 0 0 (a .o)) _ (c .before .before .insert-at .ensures)
+returns c =
+    let a = c .before .before .before .before .before .before .args in
+    put-lent (a .rows .now) _ _ _ _ (c .before .before .before .before .row-at .ensures) refl
+    (λ (w : List ℕ). insertedAt w 0 0 (a .o)) _ (c .before .before .insert-at .ensures)
 
 pub begin-row-spec : {M : Type 1} → statement M
 begin-row-spec =

@@ -1,18 +1,34 @@
 -- The row, put back, then the word. Assumes nothing.
-use mathlib.Core.Path.{refl}
-use mathlib.Core.List.{List}
-use Prim.Native.Nat.{ℕ}
-use Rattle.sparse.specs.Edit.{insertedAt}
-use Rattle.steps.proofs.Lent.{put-lent}
+use mathlib.Core.Path.{_∙_, ap}
+use Prim.Native.Nat.{_+_, _≤_}
+use native.Mathlib.Omega.{arith}
+use lib.ListN.{length}
+use Rattle.layout.specs.Sizes.{headerAt}
+use Rattle.layout.specs.Writes.{putWord}
+use Rattle.insert_plan.proofs.Plans.{row-inside}
+use Rattle.inserts.proofs.Acts.{enter-put}
 use borrow.Author.Needs.{needs}
 use Rattle.inserts.proofs.write.enter.Statement.{statement}
 use Rattle.inserts.proofs.write.enter.Tie as tie
 
+module _ (c : tie.After-times) where
+  abbrev start : tie.Start
+  start = c .before .before .before .before .before
+
+  inside : c .times .result + c .before .at .result ≤ length (start .args .rows .now)
+  inside = row-inside (start .args .r) (headerAt (start .args .table .now) .m) _ _ _ (start .pre .row .fits) (c .before .at .ensures) (c .times .ensures)
+
+at-requires : tie.Need-at-requires
+at-requires c κs = search needs
+
+times-requires : tie.Need-times-requires
+times-requires c κs = search needs
+
 add-e : tie.Need-add-e
-add-e c = search needs
+add-e c = omega (arith, inside c, start c .good)
 
 mul-insert-at : tie.Need-mul-insert-at
-mul-insert-at c = search needs
+mul-insert-at c = omega (arith, inside c, start c .good)
 
 sub-insert-at : tie.Need-sub-insert-at
 sub-insert-at c = search needs
@@ -21,7 +37,7 @@ part-insert-at-start : tie.Need-part-insert-at-start
 part-insert-at-start c = search needs
 
 part-insert-at-end : tie.Need-part-insert-at-end
-part-insert-at-end c = search needs
+part-insert-at-end c = inside c
 
 cast-insert-at : tie.Need-cast-insert-at
 cast-insert-at c = search needs
@@ -29,8 +45,11 @@ cast-insert-at c = search needs
 insert-at-requires : tie.Need-insert-at-requires
 insert-at-requires c κs = search needs
 
-add-set-word : tie.Need-add-set-word
-add-set-word c = search needs
+add-row-word : tie.Need-add-row-word
+add-row-word c = search needs
+
+row-word-requires : tie.Need-row-word-requires
+row-word-requires c κs = search needs
 
 set-word-requires : tie.Need-set-word-requires
 set-word-requires c κs = search needs
@@ -42,12 +61,17 @@ same-length-2 : tie.Need-same-length-2
 same-length-2 c = search needs
 
 returns : tie.Need-returns
-returns c = let a = c .before .before .before .before .before .before .before .before .before .before .args in (put-lent (a .rows .now) (a .a) (a .n) (a .a) (a .n) refl refl (λ (w : List ℕ). insertedAt w (a .l) (a .k) (a .o)) _ (c .before .before .before .before .before .before .insert-at .ensures), c .before .before .set-word .ensures)
+returns c =
+    let k = c .before .before .before .before .before .before .before .before .before in
+    let a = start k .args in
+    (enter-put (a .rows .now) (headerAt (a .table .now)) (a .r) (a .l) (a .k) (a .o) _ _ (k .before .at .ensures) (k .times .ensures) _ (c .before .before .before .before .before .before .before .insert-at .ensures), c .before .before .set-word .ensures ∙ ap (putWord (headerAt (a .table .now)) (a .table .now) (a .c)) (c .before .before .before .row-word .ensures))
 
 pub enter-spec : {M : Type 1} → statement M
 enter-spec =
     tie.close
     (tie.spec
+    at-requires
+    times-requires
     add-e
     mul-insert-at
     sub-insert-at
@@ -55,7 +79,8 @@ enter-spec =
     part-insert-at-end
     cast-insert-at
     insert-at-requires
-    add-set-word
+    add-row-word
+    row-word-requires
     set-word-requires
     same-length
     same-length-2

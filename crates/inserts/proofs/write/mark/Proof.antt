@@ -5,8 +5,7 @@ use mathlib.Core.List.{List}
 use Prim.Native.Nat.{ℕ}
 use lib.ListN.{take, drop}
 use Rattle.dense.specs.Bits.{isSet, withBit}
-use Rattle.idset.proofs.Spots.{span}
-use Rattle.steps.proofs.Lent.{put-lent}
+use Rattle.steps.proofs.Lent.{span, put-lent}
 use borrow.Author.Needs.{needs}
 use Rattle.inserts.proofs.write.mark.Statement.{statement}
 use Rattle.inserts.proofs.write.mark.Tie as tie
@@ -33,7 +32,10 @@ same-length : tie.Need-same-length
 same-length c = search needs
 
 returns : tie.Need-returns
-returns c = let a = c .before .before .before .before .before .args in let i = c .before .before .insert .ensures in (i .0 ∙ ap (λ (k : ℕ). not (isSet (take k (drop (a .a) (a .pages .now))) (a .o))) (span (a .a) (a .n)), put-lent (a .pages .now) (a .a) (a .n) (a .a) (a .n) refl refl (λ (w : List ℕ). withBit w (a .o)) _ (i .1))
+returns c =
+    let a = c .before .before .before .before .before .args in
+    let i = c .before .before .insert .ensures in
+    (i .0 ∙ ap (λ (k : ℕ). not (isSet (take k (drop (a .a) (a .pages .now))) (a .o))) (span (a .a) (a .n)), put-lent (a .pages .now) (a .a) (a .n) (a .a) (a .n) refl refl (λ (w : List ℕ). withBit w (a .o)) _ (i .1))
 
 pub mark-spec : {M : Type 1} → statement M
 mark-spec =
