@@ -17,6 +17,7 @@ use Rattle.layout.specs.Places.{rowPart, rowOwner}
 use Rattle.document.specs.State.{Kind, absent, sparse}
 use Rattle.layout.specs.Meaning.{offsets, kinds, stateOf}
 use Rattle.layout.specs.Follows.{AllZero, Listed, Follows}
+use Rattle.layout.specs.Lowest.{Moves}
 use Rattle.layout.specs.declared.place.Place.{Place}
 use Rattle.layout.specs.declared.place.Place.the-variants.{Absent, Sparse}
 use Rattle.layout_laws.proofs.Sizes.{row-length}
@@ -29,6 +30,7 @@ use Rattle.document.specs.Insert.{chunkSize, grown, newAnswer}
 use Rattle.document.specs.Room.{overflows, sparses, denses, verdict}
 use Rattle.calls.specs.declared.plan.Plan.the-variants.{Refuse, Begin}
 use Rattle.calls.proofs.FirstFree.{first-free, found-less, none-full}
+use Rattle.calls.proofs.Slots.{lowest}
 use Rattle.calls.proofs.Verdicts.{verdict-six, verdict-seven, verdict-room, overflows-is, sparses-is, denses-fit, overflows-fit, Needs}
 use Rattle.calls.proofs.RowEdits.{length-entered, member-entered, listed-entered, listed-free, first-place}
 use Rattle.calls.proofs.Plans.{start-chunk}
@@ -107,6 +109,7 @@ module _ {x : Mem} {n : ℕ} (i : Into x n) (e : placed x n ≡ Absent) where
         (newAnswer (stateOf x) (pos n))
         (wanted ∙ verdict-room (head x) (after x n) (Is true) ov (omega arith) (omega arith))
         (sym (ap (λ (k : Kind). grown k (chunkSize (stateOf x) (chunk x n)) (head x .m)) (kind-of i Absent e)))
+        (subst (λ (q : Place). Moves x q (Sparse (freeRow x) 1)) (sym e) (lowest (rowOwner (head x) (x .table)) (head x .r) there))
 
   -- ---- 7, 6
 

@@ -1,5 +1,5 @@
 -- An insert into a sparse chunk with room: the row gets the offset, the word one member more. Assumes nothing.
-use mathlib.Core.Path.{_≡_, sym, ap, subst, _∙_}
+use mathlib.Core.Path.{_≡_, refl, sym, ap, subst, _∙_}
 use mathlib.Core.List.{List}
 use mathlib.Core.Bool.{true, false, _||_}
 use Prim.Native.Nat.{ℕ, suc, _+_, _<_}
@@ -17,6 +17,7 @@ use Rattle.layout.specs.Places.{encoded, rowPart}
 use Rattle.document.specs.State.{sparse}
 use Rattle.layout.specs.Meaning.{offsets, stateOf}
 use Rattle.layout.specs.Follows.{Follows}
+use Rattle.layout.specs.Lowest.{Moves}
 use Rattle.layout.specs.declared.place.Place.{Place}
 use Rattle.layout.specs.declared.place.Place.the-variants.{Sparse}
 use Rattle.layout_laws.proofs.Entries.{laid-ordered, word-of-none}
@@ -84,4 +85,5 @@ module _ {x : Mem} {n : ℕ} (i : Into x n) (r l : ℕ) (e : placed x n ≡ Spar
       (λ j m. member-entered (head x) row l (offset x n) (own-listed i r l e) (own-long i r l e) room j ∙ ap (λ (p : Place). offsets (head x) x p j || eqb (offset x n) j) (sym e))
       (newAnswer (stateOf x) (pos n))
       (same-room i sparse (kind-of i (Sparse r l) e) (own-grown i r l e true (lt-ltb l (head x .m) room)) (holds-of i (Sparse r l) e ∙ new))
-      (own-kind i r l e true (lt-ltb l (head x .m) room)))
+      (own-kind i r l e true (lt-ltb l (head x .m) room))
+      (subst (λ (q : Place). Moves x q (Sparse r (suc l))) (sym e) refl))

@@ -17,6 +17,7 @@ use Rattle.layout.specs.Entries.{placeOf}
 use Rattle.document.specs.State.{Kind}
 use Rattle.layout.specs.Meaning.{offsets, holds, kindOf, kinds, stateOf}
 use Rattle.layout.specs.Follows.{sizeOf, Follows}
+use Rattle.layout.specs.Lowest.{Moves, placeIn}
 use Rattle.layout.specs.declared.place.Place.{Place}
 use Rattle.document.specs.declared.answer.Truth.{Truth}
 use Rattle.document.specs.declared.answer.Truth.the-variants.{Is, Refused}
@@ -26,6 +27,7 @@ use Rattle.steps.specs.Effects.{Becomes}
 use Rattle.document.specs.Insert.{chunkSize, grown, grownMap, mapAfter, isId}
 use Rattle.calls.proofs.Outcomes.{Inserts}
 use Rattle.calls.proofs.Refusals.{is-refused}
+use Rattle.calls.proofs.Slots.{takes-none, becomes-takes}
 
 -- ---- the map with a new member
 
@@ -62,6 +64,7 @@ module _ (x : Mem) (w : Follows x) where
     refused = λ n q. refl;
     members = λ b q. absurd (is-not k b q);
     map = λ b q. absurd (is-not k b q);
+    takes = takes-none x;
   }
 
   -- a negative id, or one that is a member
@@ -74,6 +77,7 @@ module _ (x : Mem) (w : Follows x) where
     refused = λ n q. refl;
     members = λ b q. m;
     map = λ b q c. k c ∙ ap (λ (b : Bool). mapAfter (stateOf x) z b c) (is-same false b q);
+    takes = takes-none x;
   }
 
 or-none : (b : Bool) → b ≡ (b || false)
@@ -120,16 +124,18 @@ module _ {x y : Mem} (n : ℕ) (p : Place) (os : Ids) (b : Becomes x y (n / top 
           or-none (holds x i)
           ∙ ap (λ (a : Bool). holds x i || a) (sym (ne-eqb i n (λ e. eqb-false (i / top (head x)) (n / top (head x)) q (ap (λ (j : ℕ). j / top (head x)) e))))
 
-  pub grows : (wanted : Truth) → wanted ≡ Is true → kindOf p ≡ grown (kinds x (n / top (head x))) (chunkSize (stateOf x) (n / top (head x))) (head x .m) → Inserts x (pos n) wanted (Is true) y
+  pub grows : (wanted : Truth) → wanted ≡ Is true → kindOf p ≡ grown (kinds x (n / top (head x))) (chunkSize (stateOf x) (n / top (head x))) (head x .m)
+      → Moves x (placeIn x (n / top (head x))) p → Inserts x (pos n) wanted (Is true) y
   unfolding grownMap
-  grows wanted e g = record {
+  grows wanted e g m = record {
     answer = sym e;
     follows = b .follows;
     sizes = b .head-is;
     mode = b .mode-is;
-    refused = λ m q. absurd (is-refused true m q);
+    refused = λ k q. absurd (is-refused true k q);
     members = λ a q. members-new;
     map = λ a q c. kinds-new c ∙ ap (λ (t : Bool). mapAfter (stateOf x) (pos n) t c) (is-same true a q);
+    takes = becomes-takes b m;
   }
     where
       kinds-new : (c : ℕ) → kinds y c ≡ grownMap (stateOf x) (n / top (head x)) c

@@ -3,6 +3,7 @@ pub mod Readings
 pub mod Counting
 pub mod Refusals
 pub mod FirstFree
+pub mod Slots
 pub mod Verdicts
 pub mod RowEdits
 pub mod PageEdits
@@ -16,10 +17,8 @@ pub mod Rowings
 pub mod Enters
 pub mod Turns
 pub mod Inserting
-pub mod LowestFree
 pub mod Needed
 pub mod Sofar
 pub mod Preparing
-pub mod PreparedFree
 pub mod PrepareSpares
 pub mod InsertSpares

@@ -16,6 +16,7 @@ use Rattle.layout.specs.Entries.{wordOf}
 use Rattle.document.specs.State.{Kind, dense}
 use Rattle.layout.specs.Meaning.{offsets, stateOf}
 use Rattle.layout.specs.Follows.{OwnsPage, Follows}
+use Rattle.layout.specs.Lowest.{Moves}
 use Rattle.layout.specs.declared.place.Place.{Place}
 use Rattle.layout.specs.declared.place.Place.the-variants.{Dense}
 use Rattle.layout_laws.proofs.Entries.{laid-ordered}
@@ -75,7 +76,8 @@ module _ {x : Mem} {n : ℕ} (i : Into x n) (q : ℕ) (e : placed x n ≡ Dense 
       (grows n (Dense q) (isSet (withBit page (offset x n))) became
       (λ j m. set-with page (offset x n) j (omega arith) ∙ ap (λ (p : Place). offsets (head x) x p j || eqb (offset x n) j) (sym e))
       wanted g
-      (sym (ap (λ (k : Kind). grown k (chunkSize (stateOf x) (chunk x n)) (head x .m)) (kind-of i (Dense q) e))))
+      (sym (ap (λ (k : Kind). grown k (chunkSize (stateOf x) (chunk x n)) (head x .m)) (kind-of i (Dense q) e)))
+      (subst (λ (p : Place). Moves x p (Dense q)) (sym e) refl))
 
   dense-if : (b : Bool) → isSet page (offset x n) ≡ b → Good x n (cond b Known (Mark q))
   dense-if true s = known-good i (holds-of i (Dense q) e ∙ s)

@@ -7,8 +7,10 @@ use Rattle.layout.specs.Mem.{Mem}
 use Rattle.layout.specs.Sizes.{head, modeAt}
 use Rattle.layout.specs.Meaning.{holds, kinds, stateOf}
 use Rattle.layout.specs.Follows.{Follows}
+use Rattle.layout.specs.Lowest.{TakesLowest, TakesRising}
 use Rattle.document.specs.Insert.{isId, mapAfter}
 use Rattle.document.specs.Prepare.{prepareAnswer, mapPrepared}
+use Rattle.calls.specs.Prepare.{chunksTo}
 use Rattle.document.specs.declared.answer.Outcome.{Outcome}
 use Rattle.document.specs.declared.answer.Outcome.the-variants as outcome
 use Rattle.document.specs.declared.answer.Truth.{Truth}
@@ -23,6 +25,7 @@ pub record Inserts (x : Mem) (z : ℤ) (wanted : Truth) (a : Truth) (y : Mem) : 
   pub refused : (n : ℕ) → a ≡ Refused n → y ≡ x
   pub members : (b : Bool) → a ≡ Is b → (n : ℕ) → holds y n ≡ (holds x n || isId z n)
   pub map : (b : Bool) → a ≡ Is b → (c : ℕ) → kinds y c ≡ mapAfter (stateOf x) z b c
+  pub takes : TakesLowest x y
 
 pub record Prepares (x : Mem) (z : ℤ) (a : Outcome) (y : Mem) : Type 0 where
   pub answer : a ≡ prepareAnswer (stateOf x) z
@@ -32,3 +35,4 @@ pub record Prepares (x : Mem) (z : ℤ) (a : Outcome) (y : Mem) : Type 0 where
   pub refused : (n : ℕ) → a ≡ outcome.Refused n → y ≡ x
   pub members : (n : ℕ) → holds y n ≡ holds x n
   pub map : a ≡ outcome.Done → (c : ℕ) → kinds y c ≡ mapPrepared (stateOf x) z c
+  pub takes : TakesRising x y (chunksTo (head x) z)

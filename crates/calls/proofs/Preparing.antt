@@ -15,20 +15,22 @@ use Rattle.layout.specs.Sizes.{head}
 use Rattle.document.specs.State.{Kind, dense}
 use Rattle.layout.specs.Meaning.{kinds, ranked, stateOf}
 use Rattle.layout.specs.Follows.{Follows}
+use Rattle.layout.specs.Lowest.{TakesRising}
 use Rattle.layout.specs.SetUp.{Did, did}
 use Rattle.document.specs.declared.sizes.Sizes.{Sizes}
 use Rattle.layout_laws.proofs.Walked.{follows-walked}
 use Rattle.numbers.proofs.Splits as splits
 use Rattle.document.specs.declared.answer.Truth.the-variants as truth
 use Rattle.document.specs.declared.answer.Outcome.the-variants.{Done, Refused}
-use Rattle.calls.specs.Prepare.{densed, densedTo, overNeeded, pagesNeeded, prepareId, prepareBy}
+use Rattle.calls.specs.Prepare.{densed, densedTo, chunksTo, overNeeded, pagesNeeded, prepareId, prepareBy}
 use Rattle.document.specs.Insert.{done}
 use Rattle.document.specs.Prepare.{denseMap, prepareAnswer}
 use Rattle.document.specs.Room.{overflows, denses, verdict}
 use Rattle.calls.proofs.Outcomes.{Prepares}
+use Rattle.calls.proofs.Slots.{Turn, rising-none}
 use Rattle.calls.proofs.Verdicts.{verdict-six, verdict-eight, verdict-room}
 use Rattle.calls.proofs.Needed.{over-needed, pages-needed, rows-enough}
-use Rattle.calls.proofs.Sofar.{Sofar, sofar-none, sofar-more}
+use Rattle.calls.proofs.Sofar.{Sofar, sofar-none, sofar-more, sofar-takes}
 
 -- ---- all chunks from 0 to c
 
@@ -42,6 +44,24 @@ module _ {x : Mem} (w : Follows x) (mode : ranked x ≡ false) (c : ℕ) (far : 
       go : (y : Mem) → Sofar x n y → Sofar x (suc n) (densed (head x) y n)
       go y s = subst (λ (h : Sizes). Sofar x (suc n) (densed h y n)) (s .sizes) (sofar-more x mode c n (omega arith) far y s over pages)
 
+  -- each takes the lowest free page
+  sofar-rising : TakesRising x (densedTo (head x) x (c + 1)) (c + 1)
+  unfolding densedTo
+  sofar-rising = record {
+    upTo = densedTo (head x) x;
+    first = refl;
+    last = refl;
+    follows = λ k l. sofar k l .follows;
+    takes = λ k l. turn k l .takes;
+    others = λ k l. turn k l .others;
+  }
+    where
+      turn : (k : ℕ) → k < c + 1 → Turn (densedTo (head x) x k) (densedTo (head x) x (suc k)) k
+      turn k l = go (densedTo (head x) x k) (sofar k (omega arith))
+        where
+          go : (y : Mem) → Sofar x k y → Turn y (densed (head x) y k) k
+          go y s = subst (λ (h : Sizes). Turn y (densed h y k) k) (s .sizes) (sofar-takes x mode c k (omega arith) far y s over pages)
+
 -- ---- what is said of the call
 
 abbrev Says : Mem → ℤ → Did → Type 0
@@ -51,7 +71,7 @@ not-done : (n : ℕ) → Refused n ≡ Done → ⊥
 not-done n e = let z : _≡_ {A = ℕ} 0 1 = cc in omega arith
 
 refuses-prepare : {x : Mem} → Follows x → (z : ℤ) (k : ℕ) → prepareAnswer (stateOf x) z ≡ Refused k → Says x z (did (Refused k) x)
-refuses-prepare w z k e = record {
+refuses-prepare {x} w z k e = record {
   answer = sym e;
   follows = w;
   sizes = refl;
@@ -59,6 +79,7 @@ refuses-prepare w z k e = record {
   refused = λ n q. refl;
   members = λ n. refl;
   map = λ q. absurd (not-done k q);
+  takes = rising-none w (chunksTo (head x) z);
 }
 
 -- below the next is at most
@@ -69,9 +90,10 @@ less-next i c = go (leb i c) refl
     go true e = lt-ltb i (c + 1) (let l = leb-true i c e in omega arith)
     go false e = le-ltb i (c + 1) (let l = leb-false i c e in omega arith)
 
-done-prepare : {x : Mem} (n : ℕ) (y : Mem) → Sofar x (n / top (head x) + 1) y → prepareAnswer (stateOf x) (pos n) ≡ Done → Says x (pos n) (did Done y)
+done-prepare : {x : Mem} (n : ℕ) (y : Mem) → Sofar x (n / top (head x) + 1) y → TakesRising x y (n / top (head x) + 1)
+    → prepareAnswer (stateOf x) (pos n) ≡ Done → Says x (pos n) (did Done y)
 unfolding denseMap
-done-prepare {x} n y s e = record {
+done-prepare {x} n y s t e = record {
   answer = sym e;
   follows = s .follows;
   sizes = s .sizes;
@@ -79,6 +101,7 @@ done-prepare {x} n y s e = record {
   refused = λ k q. absurd (not-done k (sym q));
   members = s .members;
   map = λ q i. s .map i ∙ ap (λ (b : Bool). cond b dense (kinds x i)) (less-next i (n / top (head x)));
+  takes = t;
 }
 
 module _ {x : Mem} (w : Follows x) where
@@ -98,6 +121,7 @@ module _ {x : Mem} (w : Follows x) where
     refused = λ k q. absurd (not-done k (sym q));
     members = λ i. refl;
     map = λ q i. refl;
+    takes = rising-none w 0;
   }
 
   module _ (n : ℕ) (small : n < 2 ^ 63) (mode : ranked x ≡ false) where
@@ -124,7 +148,7 @@ module _ {x : Mem} (w : Follows x) where
         let l = ltb-false (head x .p) (pagesNeeded (head x) (x .table) c) q in
         let i = pages-needed w c far in
         let p : denses (head x) map ≤ head x .p = omega arith in
-        done-prepare n (densedTo (head x) x (c + 1)) (sofar w mode c far ov p (c + 1) (omega arith))
+        done-prepare n (densedTo (head x) x (c + 1)) (sofar w mode c far ov p (c + 1) (omega arith)) (sofar-rising w mode c far ov p)
         (wanted ∙ ap done (verdict-room (head x) map (truth.Is true) ov (rows-enough w c far) p))
 
     six : (b : Bool) → ltb (head x .v) (overNeeded (head x) (x .table) c) ≡ b

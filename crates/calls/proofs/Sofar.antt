@@ -18,6 +18,7 @@ use Rattle.layout.specs.Entries.{placeOf}
 use Rattle.document.specs.State.{Kind, absent, sparse, dense, isPresent, isDense}
 use Rattle.layout.specs.Meaning.{offsets, holds, kindOf, kinds, ranked, stateOf}
 use Rattle.layout.specs.Follows.{Listed, RowListed, Follows}
+use Rattle.layout.specs.Lowest.{Moves}
 use Rattle.document.specs.declared.sizes.Sizes.{Sizes}
 use Rattle.layout.specs.declared.place.Place.{Place}
 use Rattle.layout.specs.declared.place.Place.the-variants.{Absent, Sparse, Dense}
@@ -30,6 +31,7 @@ use Rattle.calls.specs.Prepare.{lowestPage, intoPage, densed}
 use Rattle.document.specs.Prepare.{denseMap}
 use Rattle.document.specs.Room.{overflows, denses}
 use Rattle.calls.proofs.FirstFree.{first-free, taken, none-full}
+use Rattle.calls.proofs.Slots.{lowest, Turn, turn-none, turn-becomes}
 use Rattle.calls.proofs.Verdicts.{overflows-is, denses-is, Needs, needs}
 use Rattle.calls.proofs.PageEdits.{free-bits, length-filled, set-filled}
 use Rattle.calls.proofs.Needed.{overflows-le, denses-le, dense-more}
@@ -242,3 +244,20 @@ module _ (x : Mem) (mode : ranked x ≡ false) (c n : ℕ) (le : n ≤ c) (far :
 
   pub sofar-more : Sofar x (suc n) (densed (head y) y n)
   sofar-more = at-place (placeOf (head y) (y .table) n) refl
+
+  -- ---- what chunk n takes: the lowest free page, or nothing
+
+  abbrev Takes : Mem → Type 0
+  Takes z = Turn y z n
+
+  page-takes : (q : Place) → placeOf (head y) (y .table) n ≡ q → TakesPage q → Moves y q (Dense free) → Takes (densed (head y) y n)
+  page-takes q e i m =
+      subst Takes (sym (takes-is q e i)) (turn-becomes (takes-becomes q e i) (subst (λ (p : Place). Moves y p (Dense free)) (sym e) m))
+
+  place-takes : (q : Place) → placeOf (head y) (y .table) n ≡ q → Takes (densed (head y) y n)
+  place-takes Absent e = let i = takes-page Absent e refl in page-takes Absent e i (lowest owner (head y .p) (i .there))
+  place-takes (Sparse r l) e = let i = takes-page (Sparse r l) e refl in page-takes (Sparse r l) e i (lowest owner (head y .p) (i .there))
+  place-takes (Dense p) e = subst Takes (sym (stays p e)) (turn-none y n)
+
+  pub sofar-takes : Takes (densed (head y) y n)
+  sofar-takes = place-takes (placeOf (head y) (y .table) n) refl

@@ -18,6 +18,7 @@ use Rattle.layout.specs.Places.{rowPart, pagePart, pageOwner}
 use Rattle.document.specs.State.{sparse, dense}
 use Rattle.layout.specs.Meaning.{offsets, kinds, stateOf}
 use Rattle.layout.specs.Follows.{Follows}
+use Rattle.layout.specs.Lowest.{Moves}
 use Rattle.layout.specs.declared.place.Place.{Place}
 use Rattle.layout.specs.declared.place.Place.the-variants.{Sparse, Dense}
 use Rattle.layout_laws.proofs.Sizes.{page-length}
@@ -30,6 +31,7 @@ use Rattle.document.specs.Insert.{newAnswer}
 use Rattle.document.specs.Room.{overflows, sparses, denses, verdict}
 use Rattle.calls.specs.declared.plan.Plan.the-variants.{Refuse, Turn}
 use Rattle.calls.proofs.FirstFree.{first-free, found-less, none-full}
+use Rattle.calls.proofs.Slots.{lowest}
 use Rattle.calls.proofs.Verdicts.{verdict-eight, verdict-room, denses-is, sparses-fit, overflows-fit, Needs}
 use Rattle.calls.proofs.PageEdits.{free-bits, set-turned, length-turned}
 use Rattle.calls.proofs.Plans.{turn-dense}
@@ -102,6 +104,7 @@ module _ {x : Mem} {n : ℕ} (i : Into x n) (r l : ℕ) (e : placed x n ≡ Spar
         (newAnswer (stateOf x) (pos n))
         (wanted ∙ verdict-room (head x) (after x n) (Is true) over-room row-room (omega arith))
         (own-kind i r l e false (le-ltb l (head x .m) full))
+        (subst (λ (q : Place). Moves x q (Dense (freePage x))) (sym e) (lowest (pageOwner (head x) (x .table)) (head x .p) there))
 
   eight : (b : Bool) → ltb (freePage x) (head x .p) ≡ b → Good x n (cond b (Turn r l (freePage x)) (Refuse 8))
   eight true q = turn-good (ltb-true (freePage x) (head x .p) q)

@@ -45,6 +45,11 @@ unfoldable pub densedTo : Sizes → Mem → ℕ → Mem
 densedTo h x zero = x
 densedTo h x (suc n) = densed h (densedTo h x n) n
 
+-- how many a maximum asks for: chunks 0 to its own, none where it is negative
+abbrev pub chunksTo : Sizes → ℤ → ℕ
+chunksTo h (pos n) = n / top h + 1
+chunksTo h (negsuc n) = 0
+
 -- overflow entries and pages that are needed once chunks 0 to c are dense
 unfoldable pub overNeeded : Sizes → List ℕ → ℕ → ℕ
 overNeeded h t c = overCount t - overPlace t (16 + 2 * h .d) (overCount t) (c + 1) + (c + 1 - h .d)

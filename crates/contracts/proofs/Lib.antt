@@ -2,3 +2,4 @@ pub mod Steps
 pub mod Readings
 pub mod SetUps
 pub mod Spares
+pub mod Takes

@@ -9,5 +9,6 @@ pub mod SetUp
 pub mod Short
 pub mod Seat
 pub mod Free
+pub mod Lowest
 pub mod Writes
 pub mod Spare

@@ -19,12 +19,13 @@ use Rattle.document.specs.declared.answer.Outcome.the-variants.{Done, Refused}
 use Rattle.layout_laws.proofs.Sizes.{slot-inside}
 use Rattle.layout_laws.proofs.Walked.{laid-walked, follows-walked}
 use Rattle.layout_laws.proofs.Fresh.{zeroed-at, zeroed-length}
+use Rattle.calls.proofs.Slots.{takes-none, places-stay}
 use Rattle.ranks.specs.Form.{toRanked, toOpen, rankUpBy, openBy}
 use Rattle.document.specs.Answers.{rankUpAnswer, leaveAnswer}
 use Rattle.ranks.proofs.Turns.{Turns}
 use Rattle.ranks.proofs.Prefixes.{recounted}
 use Rattle.ranks.proofs.Blocks.{blocks-length, blocks-at}
-use Rattle.ranks.proofs.Recounts.{Recount, mode-is, head-same, recount-follows, recount-holds, recount-kinds}
+use Rattle.ranks.proofs.Recounts.{Recount, mode-is, head-same, recount-follows, recount-holds, recount-places, recount-kinds}
 
 -- ---- a refusal leaves memory as it was, on any memory
 
@@ -89,6 +90,7 @@ module _ {x : Mem} (w : Follows x) where
     refused = λ n q. refl;
     members = λ n. refl;
     map = λ c. refl;
+    takes = takes-none x;
   }
 
   turns-to : (b : Bool) (bl u : List ℕ) → Recount (head x) x b bl u → Turns x Done b Done (mem (x .pages) (x .rows) bl u)
@@ -100,6 +102,7 @@ module _ {x : Mem} (w : Follows x) where
     refused = λ n q. absurd (let z : _≡_ {A = ℕ} 0 1 = cc in omega arith);
     members = recount-holds r;
     map = recount-kinds r;
+    takes = places-stay x (mem (x .pages) (x .rows) bl u) (recount-places r);
   }
 
   pub rank-up-says : Turns x (rankUpAnswer (stateOf x)) true (rankUpBy x .answer) (rankUpBy x .after)

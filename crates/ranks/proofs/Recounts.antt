@@ -172,6 +172,9 @@ module _ {x : Mem} {b : Bool} {bl u : List ℕ} (r : Recount (head x) x b bl u) 
       ∙ (ap (λ (q : Place). offsets (head x) (mem (x .pages) (x .rows) bl u) q (n % top (head x))) (ap decoded (word-of-same r (n / top (head x))))
       ∙ offsets-same (head x) x bl u (placeOf (head x) (x .table) (n / top (head x))) (n % top (head x)))
 
+  pub recount-places : (c : ℕ) → placeOf (headerAt u) u c ≡ placeOf (head x) (x .table) c
+  recount-places c = ap (λ (k : Sizes). placeOf k u c) head-same ∙ ap decoded (word-of-same r c)
+
   pub recount-kinds : (c : ℕ) → kinds (mem (x .pages) (x .rows) bl u) c ≡ kinds x c
   unfolding kinds
-  recount-kinds c = ap (λ (k : Sizes). kindOf (placeOf k u c)) head-same ∙ ap (λ (w : ℕ). kindOf (decoded w)) (word-of-same r c)
+  recount-kinds c = ap kindOf (recount-places c)

@@ -6,6 +6,7 @@ use Rattle.layout.specs.Mem.{Mem}
 use Rattle.layout.specs.Sizes.{head}
 use Rattle.layout.specs.Meaning.{holds, kinds, ranked}
 use Rattle.layout.specs.Follows.{Follows}
+use Rattle.layout.specs.Lowest.{TakesLowest}
 use Rattle.document.specs.declared.answer.Outcome.{Outcome}
 use Rattle.document.specs.declared.answer.Outcome.the-variants as outcome
 
@@ -18,3 +19,4 @@ pub record Turns (x : Mem) (wanted : Outcome) (after : Bool) (a : Outcome) (y : 
   pub refused : (n : ℕ) → a ≡ outcome.Refused n → y ≡ x
   pub members : (n : ℕ) → holds y n ≡ holds x n
   pub map : (c : ℕ) → kinds y c ≡ kinds x c
+  pub takes : TakesLowest x y
