@@ -29,7 +29,7 @@ use Rattle.layout.specs.Short.{lowerKey, wordIn, spotOf}
 use Rattle.layout.proofs.Tests.{range-of, room-of}
 use Rattle.layout.specs.Writes.{putPart, added, putWord}
 use Rattle.steps.specs.Steps.{rowed, paged}
-use Rattle.calls.specs.Insert.{firstFree, planBy, insertBy, preparedPlan, preparedBy}
+use Rattle.calls.specs.Insert.{firstFree, insertPlan, insertBy, preparedPlan, preparedBy}
 use Rattle.calls.specs.Prepare.{densedTo, overNeeded, pagesNeeded, prepareBy}
 use Rattle.calls.specs.Counts.{goodAt, sizeBy, usedAt, partsOk, lenBy, hasAnyBy}
 use Rattle.document.specs.State.{State, empty}
@@ -145,7 +145,7 @@ all-say [] u = tt
 all-say (c ∷ cs) u = let b = both (proper c) (allProper cs) u in (computed-says c (b .0), all-say cs (b .1))
 
 table-computed : allComputed memoryRows ≡ memoryRows
-unfolding sumTo count allTo bit isSet bitsTo withBit withRow lowerIn lowerOf searchIn spotIn insertedAt inRange roomy keyIs placeIs headIs tableIs walked kinds wordOf beside chunkAt wordAt prefixAt membersAt lowerKey wordIn spotOf zeroed freshTable fresh setUpBy putPart added putWord rowed paged firstFree planBy insertBy preparedPlan preparedBy densedTo overNeeded pagesNeeded prepareBy goodAt sizeBy usedAt partsOk lenBy hasAnyBy prefixed blocked blockedTo toRanked rankUpBy seatIn rankBy rankIfBy
+unfolding sumTo count allTo bit isSet bitsTo withBit withRow lowerIn lowerOf searchIn spotIn insertedAt inRange roomy keyIs placeIs headIs tableIs walked kinds wordOf beside chunkAt wordAt prefixAt membersAt lowerKey wordIn spotOf zeroed freshTable fresh setUpBy putPart added putWord rowed paged firstFree insertPlan insertBy preparedPlan preparedBy densedTo overNeeded pagesNeeded prepareBy goodAt sizeBy usedAt partsOk lenBy hasAnyBy prefixed blocked blockedTo toRanked rankUpBy seatIn rankBy rankIfBy
 table-computed = refl
 
 table-proper : allProper memoryRows ≡ true

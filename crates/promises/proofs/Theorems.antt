@@ -26,7 +26,9 @@ use Rattle.layout.specs.Spare.{Spare}
 use Rattle.layout_laws.specs.StandsFor.{StandsForOne}
 use Rattle.layout_laws.proofs.StandsFor.{stands-for-one as one-state}
 use Rattle.layout_laws.proofs.Spares.{set-up-spare}
+use Rattle.contracts.specs.Takes.{Takes}
 use Rattle.contracts.proofs.Spares.{spare}
+use Rattle.contracts.proofs.Takes.{lowest-free as takes-lowest}
 use Rattle.contracts.specs.Runs.{ranBy}
 use Rattle.contracts.specs.Runs as runs
 use Rattle.contracts.specs.Does.{Does, Answers, SetsUp}
@@ -100,6 +102,10 @@ module _ (x : Mem) (w : Follows x) where
   -- no call writes past the sizes
   pub spare-stays : (c : Call) (a : Said) (y : Mem) → Does x c a y → Spare (head x) x y
   spare-stays c a y d = subst (λ (r : runs.Ran). Spare (head x) x (r .after)) (sym (d .by)) (spare x c w)
+
+  -- the row or page that a chunk newly takes is the lowest that was free; over several chunks in rising order
+  pub lowest-free : (c : Call) (a : Said) (y : Mem) → Fitting c → Does x c a y → Takes x c y
+  lowest-free c a y f d = takes-lowest x c a y w f d
 
   -- it is never the cause of a 3
   pub never-three : (c : Call) (a : Said) (y : Mem) → Does x c a y → Refuses a 3 → ⊥
