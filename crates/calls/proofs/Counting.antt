@@ -1,11 +1,9 @@
 -- Counts of members and of chunks on memory that follows the layout: those of the plain set and of the map, and never a refusal. Assumes nothing.
 use mathlib.Core.Path.{_≡_, refl, sym, ap, ap₂, _∙_}
 use mathlib.Core.Bool.{Bool, true, cond, not, _&&_}
-use Prim.Native.Nat.{ℕ, _+_, _*_, _<_}
+use Prim.Native.Nat.{ℕ, _*_, _<_}
 use native.Mathlib.Omega.{arith}
-use lib.ListN.{length, getD}
 use lib.Dec.{eqb}
-use borrow.Author.Tests.{le-leb}
 use Rattle.sums.specs.Sums.{sumTo}
 use Rattle.sums.specs.Ids.{count, total}
 use Rattle.sums.specs.Rules.{allTo}
@@ -14,10 +12,10 @@ use Rattle.sums.proofs.Rules.{all-of, eqb-of, same-of, same-test}
 use Rattle.dense.specs.Bits.{bitsTo}
 use Rattle.layout.specs.Mem.{Mem}
 use Rattle.document.specs.Sizes.{InRange, top}
-use Rattle.layout.specs.Sizes.{wide, head, overCount}
+use Rattle.layout.specs.Sizes.{wide, head}
 use Rattle.layout.specs.Places.{pagePart}
 use Rattle.layout.specs.Entries.{chunkAt, placeAt}
-use Rattle.layout.specs.Short.{spotOf}
+use Rattle.layout.specs.Short.{spotOn, spotOf}
 use Rattle.layout.specs.Meaning.{holds, stateOf}
 use Rattle.document.specs.Answers.{chunksIn}
 use Rattle.layout.specs.Follows.{sizeOf, membersAt, Follows}
@@ -26,10 +24,9 @@ use Rattle.document.specs.declared.answer.Truth.the-variants as truth
 use Rattle.document.specs.declared.answer.Amount.the-variants as amount
 use Rattle.layout.specs.declared.place.Place.{Place}
 use Rattle.layout.specs.declared.place.Place.the-variants.{Absent, Sparse, Dense}
-use Rattle.layout_laws.specs.Chunks
 use Rattle.layout_laws.proofs.Entries.{laid-ordered}
 use Rattle.layout_laws.proofs.Sizes.{wide-top}
-use Rattle.layout_laws.proofs.Short.{spot-inside}
+use Rattle.layout_laws.proofs.Short.{spot-inside, entries-inside}
 use Rattle.layout_laws.proofs.Members.{count-total}
 use Rattle.layout_laws.proofs.ChunkCounts.{chunks-entries}
 use Rattle.calls.specs.Reading.{spotBy}
@@ -38,12 +35,12 @@ use Rattle.calls.proofs.Readings.{shift-ok}
 
 -- ---- a part, by its place
 
-good-spot : (h : Sizes) (p : Place) → isGood (Chunks.spotOn h p) ≡ true
+good-spot : (h : Sizes) (p : Place) → isGood (spotOn h p) ≡ true
 good-spot h Absent = refl
 good-spot h (Sparse r l) = refl
 good-spot h (Dense p) = refl
 
-size-spot : (h : Sizes) (x : Mem) → InRange h → (p : Place) → sizeIn x (Chunks.spotOn h p) ≡ sizeOf h (x .pages) p
+size-spot : (h : Sizes) (x : Mem) → InRange h → (p : Place) → sizeIn x (spotOn h p) ≡ sizeOf h (x .pages) p
 size-spot h x z Absent = refl
 size-spot h x z (Sparse r l) = refl
 size-spot h x z (Dense p) = let t = wide-top h z in let e : 64 * wide h ≡ top h = omega arith in ap (bitsTo (pagePart h (x .pages) p)) e
@@ -58,7 +55,7 @@ all-zero f n =
 -- ---- on memory that follows the layout
 
 module _ {x : Mem} (w : Follows x) where
-  spot-entry : (e : ℕ) → e < entriesOf x → spotBy x (wordBy x e) ≡ Chunks.spotOn (head x) (placeAt (head x) (x .table) e)
+  spot-entry : (e : ℕ) → e < entriesOf x → spotBy x (wordBy x e) ≡ spotOn (head x) (placeAt (head x) (x .table) e)
   unfolding spotOf
   spot-entry e l = spot-inside x (head x) (w .sizes) (w .room) (chunkAt (head x) (x .table) e) (placeAt (head x) (x .table) e) (w .places e l)
 
@@ -71,15 +68,7 @@ module _ {x : Mem} (w : Follows x) where
   size-at e l = ap (sizeIn x) (spot-entry e l) ∙ size-spot (head x) x (w .sizes) (placeAt (head x) (x .table) e)
 
   entries-ok : entriesOk (x .table) ≡ true
-  entries-ok =
-      let z = w .sizes in
-      let f = w .over-fits in
-      let r = w .room .in-table in
-      ap₂ _&&_
-      (ap₂ _&&_
-      (ap₂ _&&_ (shift-ok x z) (le-leb (getD (x .table) 2 0) 262144 (z .d-high)))
-      (le-leb (overCount (x .table)) 65536 (let v = z .v-high in omega arith)))
-      (le-leb (16 + 2 * getD (x .table) 2 0 + 3 * overCount (x .table)) (length (x .table)) (omega arith))
+  entries-ok = ap₂ _&&_ (shift-ok x (w .sizes)) (entries-inside x (w .sizes) (w .room) (w .over-fits))
 
   parts-ok : partsOk x ≡ true
   unfolding partsOk

@@ -1,5 +1,5 @@
--- Inserts write nothing past the sizes where the chunk's slot and entry are within them, and so on memory that passes the walk. Assumes nothing.
-use mathlib.Core.Path.{_≡_, refl, sym, ap, subst, _∙_}
+-- Inserts write nothing past the sizes, on any memory. Assumes nothing.
+use mathlib.Core.Path.{_≡_, refl, sym, ap, _∙_}
 use mathlib.Core.Logic.{_≢_}
 use mathlib.Core.Bool.{Bool, true, false, cond, _&&_}
 use Prim.Native.Nat.{ℕ, _+_, _*_, _≤_, _<_}
@@ -27,10 +27,8 @@ use Rattle.document.specs.declared.answer.Truth.the-variants.{Refused}
 use Rattle.layout.specs.Mem.{Mem}
 use Rattle.layout.specs.Sizes.{wide, head, modeAt, overCount}
 use Rattle.layout.specs.Places.{decoded, encoded, rowPart, pagePart}
-use Rattle.layout.specs.Entries.{wordOf, placeOf}
 use Rattle.layout.specs.Short.{wordIn}
-use Rattle.layout.specs.Follows.{Owned}
-use Rattle.layout.specs.Tests.{Walked, headIs}
+use Rattle.layout.specs.Tests.{headIs}
 use Rattle.layout.specs.Spare.{Spare}
 use Rattle.layout.specs.declared.place.Place.{Place}
 use Rattle.layout.specs.declared.place.Place.the-variants.{Absent, Sparse, Dense}
@@ -38,7 +36,6 @@ use Rattle.layout.specs.declared.find.Word.{Word}
 use Rattle.layout.specs.declared.find.Word.the-variants as word
 use Rattle.layout.proofs.Tests.{HeadIs, head-of}
 use Rattle.layout_laws.proofs.Sizes.{part-length}
-use Rattle.layout_laws.proofs.Short.{word-in-is, owned-of}
 use Rattle.layout_laws.proofs.Spares.{EntryRoom, RowSlot, PageSlot, row-slot, page-slot, room-known, beyond-same, slot-beyond, put-word-beyond, spare-same}
 use Rattle.steps.specs.Effects.{EntryFor}
 use Rattle.steps.proofs.Spares.{room-for, rowed-spare, paged-spare}
@@ -118,20 +115,7 @@ module _ (x : Mem) (c o : ℕ) where
       rowed-spare (head x) x c (w .entry) r 1 row (w .row) (inserted-long r 0 0 (w .row) (omega arith) (omega arith))
   acted-spare (Turn r l p) w = paged-spare (head x) x c (w .entry) (Sparse r l) p (turned x o r l p) (w .row) (w .page) (turned-long r l p (w .page))
 
--- ---- the plan for a chunk whose place is within the sizes
-
-pub record RowWithin (x : Mem) (c r : ℕ) : Type 0 where
-  pub there : r < head x .r
-  pub fits : head x .d ≤ c → overCount (x .table) ≤ head x .v
-
-abbrev pub PlaceWithin : Mem → ℕ → Place → Type 0
-PlaceWithin x c Absent = Unit
-PlaceWithin x c (Sparse r l) = RowWithin x c r
-PlaceWithin x c (Dense p) = p < head x .p
-
--- every place that an insert goes on with is within the sizes
-abbrev pub Placed : Mem → Type 0
-Placed x = (c w : ℕ) → wordIn (x .table) c ≡ word.Is w → inside x (decoded w) ≡ true → PlaceWithin x c (decoded w)
+-- ---- the plan: each place that an insert goes on with is within the sizes
 
 -- a plan that is kept to where a test holds
 within-if : (x : Mem) (c n : ℕ) (b : Bool) (q : Plan) → (b ≡ true → Within x c q) → Within x c (cond b q (Refuse n))
@@ -183,41 +167,41 @@ module _ (x : Mem) (c : ℕ) where
       record {
         row = row-slot (head x) x (k .room) r (ltb-true r (head x .r) (g .1));
         page = page-slot (head x) x (k .room) p (ltb-true p (head x .p) f);
-        entry = room-known (x .table) c w (λ l. k .over-fits) some is;
+        entry = room-known (x .table) c w some is;
       }))
 
-module _ (x : Mem) (d : Placed x) (c o : ℕ) where
-  row-within : (w r l : ℕ) → wordIn (x .table) c ≡ word.Is w → decoded w ≡ Sparse r l → RowWithin x c r → inside x (Sparse r l) ≡ true
+module _ (x : Mem) (c o : ℕ) where
+  row-within : (w r l : ℕ) → wordIn (x .table) c ≡ word.Is w → decoded w ≡ Sparse r l → inside x (Sparse r l) ≡ true
       → (s : slot.Place) → spotIn (rowPart (head x) (x .rows) r) l o ≡ s → Within x c (intoRow x r l s)
-  row-within w r l is e there good (Found i) q = tt
-  row-within w r l is e there good (Free k) q = go (ltb l (head x .m)) refl
+  row-within w r l is e good (Found i) q = tt
+  row-within w r l is e good (Free k) q = go (ltb l (head x .m)) refl
     where
       go : (b : Bool) → ltb l (head x .m) ≡ b → Within x c (cond b (Enter r l k) (turnDense x r l))
       go true f =
           record {
-            row = record { there = there .there; inside = row-in x r l good .fits };
-            entry = room-known (x .table) c w (there .fits) (some-word w r l e) is;
+            row = record { there = row-in x r l good .there; inside = row-in x r l good .fits };
+            entry = room-known (x .table) c w (some-word w r l e) is;
             place = spot-free-le (rowPart (head x) (x .rows) r) l o k q;
             short = ltb-true l (head x .m) f;
           }
       go false f = turn-within x c w r l is (some-word w r l e)
 
-  page-within : (p : ℕ) → p < head x .p → inside x (Dense p) ≡ true → Within x c (intoPage x o p)
-  page-within p there good = go (isSet (pagePart (head x) (x .pages) p) o)
+  page-within : (p : ℕ) → inside x (Dense p) ≡ true → Within x c (intoPage x o p)
+  page-within p good = go (isSet (pagePart (head x) (x .pages) p) o)
     where
       go : (b : Bool) → Within x c (cond b Known (Mark p))
       go true = tt
-      go false = record { there = there; inside = page-in x p good .fits }
+      go false = record { there = page-in x p good .there; inside = page-in x p good .fits }
 
-  place-within : (w : ℕ) → wordIn (x .table) c ≡ word.Is w → (q : Place) → decoded w ≡ q → PlaceWithin x c q → inside x q ≡ true → Within x c (intoPlace x c o q)
-  place-within w is Absent e there good = start-within x c
-  place-within w is (Sparse r l) e there good = row-within w r l is e there good (spotIn (rowPart (head x) (x .rows) r) l o) refl
-  place-within w is (Dense p) e there good = page-within p there good
+  place-within : (w : ℕ) → wordIn (x .table) c ≡ word.Is w → (q : Place) → decoded w ≡ q → inside x q ≡ true → Within x c (intoPlace x c o q)
+  place-within w is Absent e good = start-within x c
+  place-within w is (Sparse r l) e good = row-within w r l is e good (spotIn (rowPart (head x) (x .rows) r) l o) refl
+  place-within w is (Dense p) e good = page-within p good
 
-  dense-within : (q : Place) → PlaceWithin x c q → inside x q ≡ true → Within x c (intoDense x o q)
-  dense-within Absent there good = tt
-  dense-within (Sparse r l) there good = tt
-  dense-within (Dense p) there good = page-within p there good
+  dense-within : (q : Place) → inside x q ≡ true → Within x c (intoDense x o q)
+  dense-within Absent good = tt
+  dense-within (Sparse r l) good = tt
+  dense-within (Dense p) good = page-within p good
 
   word-within : (plan : Place → Plan) → ((w : ℕ) → wordIn (x .table) c ≡ word.Is w → inside x (decoded w) ≡ true → Within x c (plan (decoded w)))
       → (u : Word) → wordIn (x .table) c ≡ u → Within x c (byWord x plan u)
@@ -226,11 +210,11 @@ module _ (x : Mem) (d : Placed x) (c o : ℕ) where
 
   pub insert-within : Within x c (insertPlan x c o)
   unfolding insertPlan
-  insert-within = word-within (intoPlace x c o) (λ w e good. place-within w e (decoded w) refl (d c w e good) good) (wordIn (x .table) c) refl
+  insert-within = word-within (intoPlace x c o) (λ w e good. place-within w e (decoded w) refl good) (wordIn (x .table) c) refl
 
   pub prepared-within : Within x c (preparedPlan x c o)
   unfolding preparedPlan
-  prepared-within = word-within (intoDense x o) (λ w e good. dense-within (decoded w) (d c w e good) good) (wordIn (x .table) c) refl
+  prepared-within = word-within (intoDense x o) (λ w e good. dense-within (decoded w) good) (wordIn (x .table) c) refl
 
 -- ---- the calls
 
@@ -244,13 +228,13 @@ open-spare x t s =
     (told-if (eqb (modeAt (x .table)) 1) (told (Refused is-ranked) x) t spare-same s)
     spare-same
 
-module _ (x : Mem) (d : Placed x) where
+module _ (x : Mem) where
   insert-at-spare : (q : Split) → Spare (head x) x (insertAt x q .after)
-  insert-at-spare (split.At c o) = acted-spare x c o (insertPlan x c o) (insert-within x d c o)
+  insert-at-spare (split.At c o) = acted-spare x c o (insertPlan x c o) (insert-within x c o)
   insert-at-spare split.Negative = spare-same
 
   prepared-at-spare : (q : Split) → Spare (head x) x (preparedAt x q .after)
-  prepared-at-spare (split.At c o) = acted-spare x c o (preparedPlan x c o) (prepared-within x d c o)
+  prepared-at-spare (split.At c o) = acted-spare x c o (preparedPlan x c o) (prepared-within x c o)
   prepared-at-spare split.Negative = spare-same
 
   pub insert-by-spare : (z : ℤ) → Spare (head x) x (insertBy x z .after)
@@ -260,18 +244,3 @@ module _ (x : Mem) (d : Placed x) where
   pub prepared-by-spare : (z : ℤ) → Spare (head x) x (preparedBy x z .after)
   unfolding preparedBy
   prepared-by-spare z = open-spare x (preparedAt x (splitOf (getD (x .table) 0 0) z)) (prepared-at-spare (splitOf (getD (x .table) 0 0) z))
-
--- ---- memory that passes the walk
-
-owned-within : {x : Mem} → Walked x (head x) → (c : ℕ) (q : Place) → Owned (head x) (x .table) c q → PlaceWithin x c q
-owned-within w c Absent o = tt
-owned-within w c (Sparse r l) o = record { there = o .there; fits = λ l. w .over-fits }
-owned-within w c (Dense p) o = o .there
-
-same-word : (u w : ℕ) → word.Is u ≡ word.Is w → u ≡ w
-same-word u w e = cc
-
-pub walked-placed : {x : Mem} → Walked x (head x) → Placed x
-walked-placed {x} w c u e good =
-    subst (λ (v : ℕ). PlaceWithin x c (decoded v)) (same-word (wordOf (head x) (x .table) c) u (sym (word-in-is x w c) ∙ e))
-    (owned-within w c (placeOf (head x) (x .table) c) (owned-of w c))

@@ -12,30 +12,21 @@ use Rattle.layout.specs.Mem.{Mem}
 use Rattle.layout.specs.Sizes.{wide, head}
 use Rattle.layout.specs.Places.{decoded}
 use Rattle.layout.specs.Entries.{placeOf}
-use Rattle.layout.specs.Short.{spotAt, spotOf}
+use Rattle.layout.specs.Short.{spotOn, spotOf}
 use Rattle.layout.specs.Tests.{Walked}
 use Rattle.layout.specs.declared.find.Spot.{Spot}
 use Rattle.layout.specs.declared.find.Spot.the-variants.{Nowhere, Row, Page, Bad}
 use Rattle.layout.specs.declared.place.Place.{Place}
 use Rattle.layout.specs.declared.place.Place.the-variants.{Absent, Sparse, Dense}
-use Rattle.layout_laws.specs.Chunks.{spotOn}
-use Rattle.layout_laws.proofs.Short.{spot-is}
+use Rattle.layout_laws.proofs.Short.{owned-of, place-inside}
 use Rattle.calls.specs.Reading.{spotBy}
 use Rattle.calls.specs.Insert.{inside}
 
 -- ---- one law for both
 
-abbrev part : Mem → Place → Spot
-part x p = spotAt (head x .s) (head x .m) (length (x .pages)) (length (x .rows)) p
-
-part-is : (x : Mem) (p : Place) → part x p ≡ cond (inside x p) (spotOn (head x) p) Bad
-part-is x Absent = refl
-part-is x (Sparse r l) = refl
-part-is x (Dense p) = refl
-
 pub spot-by : (x : Mem) (w : ℕ) → spotBy x w ≡ cond (inside x (decoded w)) (spotOn (head x) (decoded w)) Bad
 unfolding spotOf
-spot-by x w = part-is x (decoded w)
+spot-by x w = refl
 
 -- ---- where the walk finds nothing wrong, every chunk's place is inside
 
@@ -44,39 +35,46 @@ never-bad h Absent e = let z : _≡_ {A = ℕ} 0 1 = cc in omega arith
 never-bad h (Sparse r l) e = let z : _≡_ {A = ℕ} 0 1 = cc in omega arith
 never-bad h (Dense p) e = let z : _≡_ {A = ℕ} 0 1 = cc in omega arith
 
-good-if : (b : Bool) (q : Spot) → (q ≡ Bad → ⊥) → cond b q Bad ≡ q → b ≡ true
-good-if true q n e = refl
-good-if false q n e = absurd (n (sym e))
-
 pub inside-of : {x : Mem} → Walked x (head x) → (c : ℕ) → inside x (placeOf (head x) (x .table) c) ≡ true
-unfolding spotOf
-inside-of {x} w c =
-    let p = placeOf (head x) (x .table) c in
-    good-if (inside x p) (spotOn (head x) p) (never-bad (head x) p) (sym (part-is x p) ∙ spot-is w c)
+inside-of {x} w c = place-inside x (head x) (w .sizes) (w .room) c (placeOf (head x) (x .table) c) (owned-of w c)
 
 -- ---- a row, a page that was found
 
 pub record RowIn (x : Mem) (r l : ℕ) : Type 0 where
+  pub there : r < head x .r
   pub small : head x .m ≤ 1024
   pub short : l ≤ head x .m
   pub fits : r * head x .m + head x .m ≤ length (x .rows)
 
 pub record PageIn (x : Mem) (p : ℕ) : Type 0 where
+  pub there : p < head x .p
   pub small : p < 65536
   pub fits : p * wide (head x) + wide (head x) ≤ length (x .pages)
 
 pub row-in : (x : Mem) (r l : ℕ) → inside x (Sparse r l) ≡ true → RowIn x r l
 row-in x r l e =
     let m = head x .m in
-    let g = both (leb m 1024 && leb l m) (leb (r * m + m) (length (x .rows))) e in
-    let h = both (leb m 1024) (leb l m) (g .0) in
-    record { small = leb-true m 1024 (h .0); short = leb-true l m (h .1); fits = leb-true (r * m + m) (length (x .rows)) (g .1) }
+    let n = head x .r in
+    let g = both (ltb r n && leb m 1024 && leb l m) (leb (r * m + m) (length (x .rows))) e in
+    let h = both (ltb r n && leb m 1024) (leb l m) (g .0) in
+    let i = both (ltb r n) (leb m 1024) (h .0) in
+    record {
+      there = ltb-true r n (i .0);
+      small = leb-true m 1024 (i .1);
+      short = leb-true l m (h .1);
+      fits = leb-true (r * m + m) (length (x .rows)) (g .1);
+    }
 
 pub page-in : (x : Mem) (p : ℕ) → inside x (Dense p) ≡ true → PageIn x p
 page-in x p e =
     let n = wide (head x) in
-    let g = both (ltb p 65536) (leb (p * n + n) (length (x .pages))) e in
-    record { small = ltb-true p 65536 (g .0); fits = leb-true (p * n + n) (length (x .pages)) (g .1) }
+    let g = both (ltb p (head x .p) && ltb p 65536) (leb (p * n + n) (length (x .pages))) e in
+    let h = both (ltb p (head x .p)) (ltb p 65536) (g .0) in
+    record {
+      there = ltb-true p (head x .p) (h .0);
+      small = ltb-true p 65536 (h .1);
+      fits = leb-true (p * n + n) (length (x .pages)) (g .1);
+    }
 
 -- the place that a word names is one, and inside
 pub record Names (x : Mem) (w : ℕ) (p : Place) : Type 0 where

@@ -14,7 +14,7 @@ use Rattle.document.specs.Sizes.{InRange, top}
 use Rattle.layout.specs.Sizes.{head}
 use Rattle.layout.specs.Places.{rowPart}
 use Rattle.layout.specs.Entries.{placeOf}
-use Rattle.layout.specs.Short.{wordIn}
+use Rattle.layout.specs.Short.{wordIn, spotOn}
 use Rattle.layout.specs.Meaning.{offsets, holds}
 use Rattle.layout.specs.Follows.{RowListed, Follows}
 use Rattle.layout.specs.Tests.{Walked}
@@ -23,7 +23,6 @@ use Rattle.document.specs.declared.answer.Truth.the-variants as truth
 use Rattle.document.specs.declared.answer.Perhaps.the-variants as perhaps
 use Rattle.layout.specs.declared.place.Place.{Place}
 use Rattle.layout.specs.declared.place.Place.the-variants.{Absent, Sparse, Dense}
-use Rattle.layout_laws.specs.Chunks
 use Rattle.layout_laws.proofs.Short.{word-in-is, spot-is}
 use Rattle.layout_laws.proofs.Walked.{laid-walked}
 use Rattle.layout_laws.proofs.Members.{listed-rising, listed-of}
@@ -33,7 +32,7 @@ pub shift-ok : (x : Mem) → InRange (head x) → shiftOk (x .table) ≡ true
 shift-ok x z = ap₂ _&&_ (le-leb 9 (getD (x .table) 0 0) (z .s-low)) (le-leb (getD (x .table) 0 0) 25 (z .s-high))
 
 -- the short test finds each chunk's place
-pub spot-of : {x : Mem} → Walked x (head x) → (c : ℕ) → spotIf x (wordIn (x .table) c) ≡ Chunks.spotOn (head x) (placeOf (head x) (x .table) c)
+pub spot-of : {x : Mem} → Walked x (head x) → (c : ℕ) → spotIf x (wordIn (x .table) c) ≡ spotOn (head x) (placeOf (head x) (x .table) c)
 spot-of {x} w c = ap (spotIf x) (word-in-is x w c) ∙ spot-is w c
 
 found-if : (b : Bool) (i : ℕ) → isFound (placeIf b i) ≡ b
@@ -41,7 +40,7 @@ found-if true i = refl
 found-if false i = refl
 
 -- what is looked up at a place is the place's offset
-pub has-at : (h : Sizes) (x : Mem) (p : Place) (o : ℕ) → RowListed h (x .rows) p → hasAt x o (Chunks.spotOn h p) ≡ truth.Is (offsets h x p o)
+pub has-at : (h : Sizes) (x : Mem) (p : Place) (o : ℕ) → RowListed h (x .rows) p → hasAt x o (spotOn h p) ≡ truth.Is (offsets h x p o)
 has-at h x Absent o w = refl
 has-at h x (Sparse r l) o w =
     let row = rowPart h (x .rows) r in

@@ -1,16 +1,17 @@
 -- Counts of members and of chunks, on any memory: a run over the entries.
-use Prim.Native.Nat.{ℕ, _+_, _*_}
+use Prim.Native.Nat.{ℕ, _*_}
 use mathlib.Core.List.{List}
 use mathlib.Core.Bool.{Bool, true, false, cond, not, _&&_}
-use lib.ListN.{length, getD, take, drop}
-use lib.Dec.{leb, eqb}
+use lib.ListN.{take, drop}
+use lib.Dec.{eqb}
 use Rattle.sums.specs.Sums.{sumTo}
 use Rattle.sums.specs.Ids.{count}
 use Rattle.sums.specs.Rules.{allTo}
 use Rattle.dense.specs.Bits.{bitsTo}
 use Rattle.layout.specs.Mem.{Mem}
-use Rattle.layout.specs.Sizes.{head, overAt, overCount}
+use Rattle.layout.specs.Sizes.{headerAt, head}
 use Rattle.layout.specs.Entries.{entries, wordAt}
+use Rattle.layout.specs.Short.{entriesIn}
 use Rattle.document.specs.declared.answer.Truth.{Truth}
 use Rattle.document.specs.declared.answer.Truth.the-variants as truth
 use Rattle.document.specs.declared.answer.Amount.{Amount}
@@ -19,9 +20,9 @@ use Rattle.layout.specs.declared.find.Spot.{Spot}
 use Rattle.layout.specs.declared.find.Spot.the-variants.{Nowhere, Row, Page, Bad}
 use Rattle.calls.specs.Reading.{shiftOk, spotBy}
 
--- the entries lie inside the table
+-- the entries are within the sizes and lie inside the table
 abbrev pub entriesOk : List ℕ → Bool
-entriesOk t = shiftOk t && leb (getD t 2 0) 262144 && leb (overCount t) 65536 && leb (16 + 2 * getD t 2 0 + 3 * overCount t) (length t)
+entriesOk t = shiftOk t && entriesIn t (headerAt t .d)
 
 -- how many entries there are, and the word of entry e
 abbrev pub entriesOf : Mem → ℕ

@@ -1,5 +1,5 @@
 -- Inserts on any memory: a plan by rows and pages, and what it does.
-use Prim.Native.Nat.{ℕ, _+_, _*_}
+use Prim.Native.Nat.{ℕ, _+_}
 use mathlib.Core.List.{List}
 use mathlib.Core.Bool.{Bool, true, false, cond, _&&_}
 use lib.IntN.{ℤ}
@@ -18,9 +18,9 @@ use Rattle.document.specs.Refusals.{not-laid-out, is-ranked, overflow-full, row
 use Rattle.document.specs.declared.answer.Truth.{Truth}
 use Rattle.document.specs.declared.answer.Truth.the-variants.{Is, Refused}
 use Rattle.layout.specs.Mem.{Mem, mem}
-use Rattle.layout.specs.Sizes.{wide, head, modeAt, overCount}
+use Rattle.layout.specs.Sizes.{head, modeAt, overCount}
 use Rattle.layout.specs.Places.{decoded, encoded, rowPart, pagePart, rowOwner, pageOwner}
-use Rattle.layout.specs.Short.{wordIn}
+use Rattle.layout.specs.Short.{wordIn, spotFits}
 unfoldable pub use Rattle.layout.specs.Free.{firstFree}
 use Rattle.layout.specs.Tests.{headIs}
 use Rattle.layout.specs.Writes.{putWord, putRow, putPage}
@@ -77,11 +77,9 @@ intoDense x o Absent = Refuse not-prepared
 intoDense x o (Sparse r l) = Refuse not-prepared
 intoDense x o (Dense p) = intoPage x o p
 
--- a place's row or page lies inside its slice
+-- a place's row or page is one of the sizes' and lies inside its slice
 abbrev pub inside : Mem → Place → Bool
-inside x Absent = true
-inside x (Sparse r l) = leb (head x .m) 1024 && leb l (head x .m) && leb (r * head x .m + head x .m) (length (x .rows))
-inside x (Dense p) = ltb p 65536 && leb (p * wide (head x) + wide (head x)) (length (x .pages))
+inside x q = spotFits (head x) (length (x .pages)) (length (x .rows)) q
 
 -- by the place that a chunk's word names; 3 where there is none
 abbrev pub byWord : Mem → (Place → Plan) → Word → Plan

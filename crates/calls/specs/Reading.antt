@@ -15,6 +15,7 @@ use Rattle.sparse.specs.declared.Place.{Place}
 use Rattle.sparse.specs.declared.Place.the-variants.{Found, Free}
 use Rattle.dense.specs.Bits.{isSet}
 use Rattle.layout.specs.Mem.{Mem}
+use Rattle.layout.specs.Sizes.{head}
 use Rattle.layout.specs.Short.{wordIn, spotOf}
 use Rattle.document.specs.declared.answer.Truth.{Truth}
 use Rattle.document.specs.declared.answer.Truth.the-variants as truth
@@ -31,7 +32,7 @@ shiftOk t = leb 9 (getD t 0 0) && leb (getD t 0 0) 25
 
 -- the part of a pool that a word names
 abbrev pub spotBy : Mem → ℕ → Spot
-spotBy x w = spotOf (getD (x .table) 0 0) (getD (x .table) 1 0) (length (x .pages)) (length (x .rows)) w
+spotBy x w = spotOf (head x) (length (x .pages)) (length (x .rows)) w
 
 abbrev pub spotIf : Mem → Word → Spot
 spotIf x (word.Is w) = spotBy x w

@@ -13,7 +13,8 @@ use Rattle.dense.proofs.Counts.{bits-zero, bits-le}
 use Rattle.numbers.proofs.Powers.{powers}
 use Rattle.layout.specs.Mem.{Mem}
 use Rattle.layout.specs.Sizes.{overCount}
-use Rattle.layout.specs.Short.{entriesIn, spotOf}
+use Rattle.layout.specs.Short.{entriesIn}
+use Rattle.layout.proofs.Finds.{entries-are-in}
 use Rattle.layout.specs.declared.find.Spot.{Spot}
 use Rattle.layout.specs.declared.find.Spot.the-variants.{Nowhere, Row, Page, Bad}
 use Rattle.calls.specs.Reading.{shiftOk, spotBy}
@@ -30,38 +31,27 @@ pub record Run (t : List ℕ) : Type 0 where
 
 pub run : (t : List ℕ) → entriesOk t ≡ true → Run t
 run t h =
-    let a = both (shiftOk t && leb (getD t 2 0) 262144 && leb (overCount t) 65536) (leb (16 + 2 * getD t 2 0 + 3 * overCount t) (length t)) h in
-    let b = both (shiftOk t && leb (getD t 2 0) 262144) (leb (overCount t) 65536) (a .0) in
-    let c = both (shiftOk t) (leb (getD t 2 0) 262144) (b .0) in
-    let d = both (leb 9 (getD t 0 0)) (leb (getD t 0 0) 25) (c .0) in
+    let a = both (shiftOk t) (entriesIn t (getD t 2 0)) h in
+    let d = both (leb 9 (getD t 0 0)) (leb (getD t 0 0) 25) (a .0) in
+    let k = entries-are-in t (getD t 2 0) (a .1) in
     record {
       low = leb-true 9 (getD t 0 0) (d .0);
       high = leb-true (getD t 0 0) 25 (d .1);
-      direct = leb-true (getD t 2 0) 262144 (c .1);
-      over = leb-true (overCount t) 65536 (b .1);
+      direct = k .direct;
+      over = k .over;
     }
-
-pub shift-read : (t : List ℕ) (s : ℕ) → Run t → s ≡ getD t 0 0 → (9 ≤ s) × (s ≤ 25)
-shift-read t s r e = let l = r .low in let h = r .high in (omega (arith, e), omega (arith, e))
 
 pub number-small : (t : List ℕ) (d n : ℕ) → Run t → d ≡ getD t 2 0 → n ≡ overCount t → (d ≤ 262144) × (n ≤ 65536)
 number-small t d n r e f = let l = r .direct in let h = r .over in (omega (arith, e), omega (arith, f))
 
 -- the test, on what was read
-and-four : (a x y z : Bool) → (a && (x && y && z)) ≡ (a && x && y && z)
-and-four true x y z = refl
-and-four false x y z = refl
-
 pub entries-are : (t : List ℕ) (s d : ℕ) (b : Bool) → s ≡ getD t 0 0 → d ≡ getD t 2 0 → b ≡ entriesIn t d → (leb 9 s && leb s 25 && b) ≡ entriesOk t
-entries-are t s d b es ed eb =
-    ap₂ (λ (i : ℕ) (c : Bool). leb 9 i && leb i 25 && c) es (eb ∙ ap (entriesIn t) ed)
-    ∙ and-four (shiftOk t) (leb (getD t 2 0) 262144) (leb (overCount t) 65536) (leb (16 + 2 * getD t 2 0 + 3 * overCount t) (length t))
+entries-are t s d b es ed eb = ap₂ (λ (i : ℕ) (c : Bool). leb 9 i && leb i 25 && c) es (eb ∙ ap (entriesIn t) ed)
 
 -- ---- the word and the part of entry e
 
-pub spot-entry : (x : Mem) (e s m w : ℕ) (q : Spot) → s ≡ getD (x .table) 0 0 → m ≡ getD (x .table) 1 0 → w ≡ wordBy x e → q ≡ spotOf s m (length (x .pages)) (length (x .rows)) w → q ≡ spotBy x (wordBy x e)
-spot-entry x e s m w q es em ew h =
-    h ∙ (ap₂ (λ (i j : ℕ). spotOf i j (length (x .pages)) (length (x .rows)) w) es em ∙ ap (spotBy x) ew)
+pub spot-entry : (x : Mem) (e w : ℕ) (q : Spot) → w ≡ wordBy x e → q ≡ spotBy x w → q ≡ spotBy x (wordBy x e)
+spot-entry x e w q ew h = h ∙ ap (spotBy x) ew
 
 -- ---- members of entry e
 
@@ -91,7 +81,7 @@ module _ (x : Mem) (e : ℕ) where
 
   module _ (a n : ℕ) (f : Page a n ≡ spotBy x (wordBy x e)) where
     pub page-here : InPages (getD (x .table) 0 0) (length (x .pages)) a n
-    page-here = spot-page (getD (x .table) 0 0) (getD (x .table) 1 0) (length (x .pages)) (length (x .rows)) (wordBy x e) a n (sym f)
+    page-here = spot-page x (wordBy x e) a n (sym f)
 
     pub page-size : (k : ℕ) → k ≡ bitsTo (take (a + n - a) (drop a (x .pages))) (64 * length (take (a + n - a) (drop a (x .pages)))) → k ≡ sizeBy x e
     page-size k g =
@@ -116,7 +106,7 @@ module _ (x : Mem) (e : ℕ) where
       go : (q : Spot) → q ≡ spotBy x (wordBy x e) → sizeIn x q ≤ 33554432
       go Nowhere f = omega arith
       go (Row a n l) f =
-          let i = spot-row (getD (x .table) 0 0) (getD (x .table) 1 0) (length (x .pages)) (length (x .rows)) (wordBy x e) a n l (sym f) in
+          let i = spot-row x (wordBy x e) a n l (sym f) in
           omega (arith, i .short, i .small)
       go (Page a n) f = omega (arith, page-small a n f r, bits-le (take n (drop a (x .pages))) (64 * n))
       go Bad f = omega arith

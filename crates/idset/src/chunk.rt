@@ -9,7 +9,6 @@ use document::answer::Truth;
 use layout::find;
 use layout::find::Spot;
 use layout::find::Word;
-use numbers::place as element;
 use sparse::Place;
 
 // The part of a pool that holds chunk c.
@@ -20,13 +19,7 @@ pub fn spot(pages: &[u64], rows: &[u32], blocks: &[u32], table: &[u64], s: u64, 
     let Word::Is(w) = find::word_of(table, c) else {
         return Spot::Bad;
     };
-    find::spot_of(
-        s,
-        element::at(table, 1),
-        pages.len() as u64,
-        rows.len() as u64,
-        w,
-    )
+    find::spot_of(table, pages.len() as u64, rows.len() as u64, w)
 }
 
 pub fn found(p: Place) -> bool
@@ -49,7 +42,8 @@ pub fn has(
     o: u64,
 ) -> Truth
     requires { ⌜ (9 ≤ s) × (s ≤ 25) × (s ≡ getD (now table) 0 0) × (c < 2 ^ 62) × (o < 2 ^ s) ⌝ }
-    ensures { λ r. ⌜ r ≡ hasAt (memOf (pages .entry) (rows .entry) (blocks .entry) (table .entry)) o (spotIf (memOf (pages .entry) (rows .entry) (blocks .entry) (table .entry)) (wordIn (now (table .entry)) c)) ⌝ }
+    ensures { λ r. ⌜ (let x = memOf (pages .entry) (rows .entry) (blocks .entry) (table .entry) in
+        r ≡ hasAt x o (spotIf x (wordIn (now (table .entry)) c))) ⌝ }
 {
     match spot(pages, rows, blocks, table, s, c) {
         Spot::Nowhere => Truth::Is(false),

@@ -26,7 +26,7 @@ pub struct Vacancy {
     pub none: bool,
 }
 
-// The entries lie inside the table.
+// The entries are within the sizes and lie inside the table.
 pub fn are(table: &[u64]) -> bool
     ensures { λ b. ⌜ b ≡ entriesOk (now (table .entry)) ⌝ }
 {
@@ -45,11 +45,11 @@ pub fn number(table: &[u64]) -> u64
 // The part that entry e names.
 pub fn spot_at(pages: &[u64], rows: &[u32], blocks: &[u32], table: &[u64], e: u64) -> Spot
     requires { ⌜ (entriesOk (now table) ≡ true) × (e ≤ 327680) ⌝ }
-    ensures { λ q. ⌜ q ≡ spotBy (memOf (pages .entry) (rows .entry) (blocks .entry) (table .entry)) (wordBy (memOf (pages .entry) (rows .entry) (blocks .entry) (table .entry)) e) ⌝ }
+    ensures { λ q. ⌜ (let x = memOf (pages .entry) (rows .entry) (blocks .entry) (table .entry) in
+        q ≡ spotBy x (wordBy x e)) ⌝ }
 {
     find::spot_of(
-        element::at(table, 0),
-        element::at(table, 1),
+        table,
         pages.len() as u64,
         rows.len() as u64,
         entry::word_by(table, e),
@@ -59,7 +59,8 @@ pub fn spot_at(pages: &[u64], rows: &[u32], blocks: &[u32], table: &[u64], e: u6
 // The members of entry e.
 pub fn part_at(pages: &[u64], rows: &[u32], blocks: &[u32], table: &[u64], e: u64) -> Part
     requires { ⌜ (entriesOk (now table) ≡ true) × (e ≤ 327680) ⌝ }
-    ensures { λ p. ⌜ (p .good ≡ goodAt (memOf (pages .entry) (rows .entry) (blocks .entry) (table .entry)) e) × (p .size ≡ sizeBy (memOf (pages .entry) (rows .entry) (blocks .entry) (table .entry)) e) ⌝ }
+    ensures { λ p. ⌜ (let x = memOf (pages .entry) (rows .entry) (blocks .entry) (table .entry) in
+        (p .good ≡ goodAt x e) × (p .size ≡ sizeBy x e)) ⌝ }
 {
     match spot_at(pages, rows, blocks, table, e) {
         Spot::Nowhere => Part {
@@ -87,7 +88,8 @@ pub fn part_at(pages: &[u64], rows: &[u32], blocks: &[u32], table: &[u64], e: u6
 // Whether entry e has no member: a page is read up to its first.
 pub fn vacancy_at(pages: &[u64], rows: &[u32], blocks: &[u32], table: &[u64], e: u64) -> Vacancy
     requires { ⌜ (entriesOk (now table) ≡ true) × (e ≤ 327680) ⌝ }
-    ensures { λ p. ⌜ (p .good ≡ goodAt (memOf (pages .entry) (rows .entry) (blocks .entry) (table .entry)) e) × (p .none ≡ eqb (sizeBy (memOf (pages .entry) (rows .entry) (blocks .entry) (table .entry)) e) 0) ⌝ }
+    ensures { λ p. ⌜ (let x = memOf (pages .entry) (rows .entry) (blocks .entry) (table .entry) in
+        (p .good ≡ goodAt x e) × (p .none ≡ eqb (sizeBy x e) 0)) ⌝ }
 {
     match spot_at(pages, rows, blocks, table, e) {
         Spot::Nowhere => Vacancy {

@@ -6,7 +6,7 @@ use Prim.Native.Nat.{ℕ, _+_, _-_, _*_, _^_, _≤_, _<_}
 use native.Mathlib.Omega.{arith}
 use lib.Dec.{leb, ltb}
 use lib.ListN.{length, getD}
-use borrow.Author.Tests.{leb-true, ltb-true, le-ltb}
+use borrow.Author.Tests.{ltb-true, le-ltb}
 use Rattle.numbers.proofs.Powers.{powers}
 use Rattle.sums.proofs.Rules.{both}
 use Rattle.sparse.specs.Search.{spotIn}
@@ -16,8 +16,9 @@ use Rattle.sparse.proofs.Searches.{placeOf, spot-le}
 use Rattle.layout.specs.Mem.{Mem}
 use Rattle.layout.specs.Sizes.{head, overCount}
 use Rattle.layout.specs.Places.{rowPart}
-use Rattle.layout.specs.Short.{directWord, overflowWord, overWord, overPlace, wordIn}
+use Rattle.layout.specs.Short.{entriesIn, directWord, overflowWord, overWord, overPlace, wordIn}
 use Rattle.layout.specs.Tests.{headIs}
+use Rattle.layout.proofs.Finds.{entries-are-in}
 use Rattle.layout.proofs.Tests.{head-of}
 use Rattle.layout.specs.declared.find.Word.the-variants as word
 use Rattle.layout.specs.declared.find.Spot.the-variants.{Page}
@@ -44,10 +45,9 @@ module _ (t : List ℕ) (c w : ℕ) (e : word.Is w ≡ wordIn t c) where
   over-small l =
       let d = getD t 2 0 in
       let n = overCount t in
-      let g = found-if (leb d 262144 && leb n 65536 && leb (16 + 2 * d + 3 * n) (length t)) (overWord t (16 + 2 * d) n c (overPlace t (16 + 2 * d) n c)) w (over-found l) in
-      let h = both (leb d 262144 && leb n 65536) (leb (16 + 2 * d + 3 * n) (length t)) g in
-      let k = both (leb d 262144) (leb n 65536) (h .0) in
-      (leb-true d 262144 (k .0), leb-true n 65536 (k .1))
+      let g = found-if (entriesIn t d) (overWord t (16 + 2 * d) n c (overPlace t (16 + 2 * d) n c)) w (over-found l) in
+      let k = entries-are-in t d g in
+      (k .direct, k .over)
 
 -- ---- one plan
 

@@ -1,17 +1,16 @@
 -- Which plan an insert into a chunk makes, by the chunk's word and the place that it names. Assumes nothing.
-use mathlib.Core.Path.{_≡_, sym, _∙_, ap, ap₂, subst}
+use mathlib.Core.Path.{_≡_, sym, _∙_, ap, subst}
 use mathlib.Core.List.{List}
 use mathlib.Core.Bool.{Bool, true, false, cond, not}
 use Prim.Native.Nat.{ℕ}
 use native.Mathlib.Omega.{arith}
-use lib.ListN.{length, getD, take, drop}
+use lib.ListN.{take, drop}
 use Rattle.dense.specs.Bits.{isSet, withBit}
 use Rattle.layout.specs.Mem.{Mem, mem}
 use Rattle.layout.specs.Places.{decoded, hasRow}
-use Rattle.layout.specs.Short.{spotOf, wordIn}
+use Rattle.layout.specs.Short.{wordIn}
 use Rattle.document.specs.declared.answer.Truth.the-variants as truth
 use Rattle.layout.specs.declared.find.Word.the-variants as word
-use Rattle.layout.specs.declared.find.Spot.{Spot}
 use Rattle.layout.specs.declared.find.Spot.the-variants.{Row, Page, Bad}
 use Rattle.layout.specs.declared.place.Place.{Place}
 use Rattle.layout.specs.declared.place.Place.the-variants.{Sparse, Dense}
@@ -22,11 +21,6 @@ use Rattle.calls.specs.declared.plan.Plan.{Plan}
 use Rattle.calls.specs.declared.plan.Plan.the-variants.{Refuse}
 use Rattle.calls.proofs.Places.{Names, row-at, page-at, bad-at}
 use Rattle.inserts.proofs.Marks.{page-marked}
-
--- the part, where s and m are the table's
-pub spot-by : (x : Mem) (s m w : ℕ) (q p : Spot) → s ≡ getD (x .table) 0 0 → m ≡ getD (x .table) 1 0
-    → q ≡ spotOf s m (length (x .pages)) (length (x .rows)) w → q ≡ p → p ≡ spotBy x w
-spot-by x s m w q p es em f g = sym g ∙ (f ∙ ap₂ (λ (i j : ℕ). spotOf i j (length (x .pages)) (length (x .rows)) w) es em)
 
 -- ---- the row that a word names
 

@@ -13,7 +13,6 @@ use layout::find::Spot;
 use layout::find::Word;
 use layout::place;
 use layout::place::Place;
-use numbers::place as element;
 
 // The row that a sparse chunk's word names.
 fn row_of(w: u64) -> u64
@@ -44,13 +43,7 @@ pub fn put(
     let Word::Is(w) = find::word_of(table, c) else {
         return Truth::Refused(3);
     };
-    match find::spot_of(
-        s,
-        element::at(table, 1),
-        pages.len() as u64,
-        rows.len() as u64,
-        w,
-    ) {
+    match find::spot_of(table, pages.len() as u64, rows.len() as u64, w) {
         Spot::Nowhere => {
             let q = insert_plan::begin(pages, rows, blocks, table, c);
             write::act(pages, rows, table, c, o, q)
@@ -82,13 +75,7 @@ pub fn put_prepared(
     let Word::Is(w) = find::word_of(table, c) else {
         return Truth::Refused(3);
     };
-    match find::spot_of(
-        s,
-        element::at(table, 1),
-        pages.len() as u64,
-        rows.len() as u64,
-        w,
-    ) {
+    match find::spot_of(table, pages.len() as u64, rows.len() as u64, w) {
         Spot::Nowhere => Truth::Refused(9),
         Spot::Row(_, _, _) => Truth::Refused(9),
         Spot::Page(a, n) => Truth::Is(write::mark(pages, a, n, o)),

@@ -40,13 +40,7 @@ pub fn into(
     let Word::Is(w) = find::word_of(table, c) else {
         return Direct::Elsewhere;
     };
-    let Spot::Page(a, n) = find::spot_of(
-        s,
-        element::at(table, 1),
-        pages.len() as u64,
-        rows.len() as u64,
-        w,
-    ) else {
+    let Spot::Page(a, n) = find::spot_of(table, pages.len() as u64, rows.len() as u64, w) else {
         return Direct::Elsewhere;
     };
     Direct::Is(write::mark(pages, a, n, o))

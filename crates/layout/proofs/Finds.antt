@@ -80,25 +80,48 @@ module _ (t : List ℕ) (a n c : ℕ) where
 
 -- ---- whether the entries lie inside the table
 
-module _ (t : List ℕ) (d n : ℕ) (e : n ≡ overCount t) where
+module _ (t : List ℕ) (d n v : ℕ) (e : n ≡ overCount t) (f : v ≡ getD t 3 0) where
   sized : Bool → Bool
   sized b = b && leb (16 + 2 * d + 3 * overCount t) (length t)
 
-  small-is : (b : Bool) → (leb d 262144 && leb n 65536) ≡ b → sized b ≡ entriesIn t d
+  small-is : (b : Bool) → (leb d 262144 && leb n 65536 && leb n v) ≡ b → sized b ≡ entriesIn t d
   unfolding sized
-  small-is b h = ap sized (sym h ∙ ap (λ (k : ℕ). leb d 262144 && leb k 65536) e)
+  small-is b h = ap sized (sym h ∙ ap₂ (λ (k i : ℕ). leb d 262144 && leb k 65536 && leb k i) e f)
 
-  pub entries-no : not (leb d 262144 && leb n 65536) ≡ true → false ≡ entriesIn t d
+  pub entries-no : not (leb d 262144 && leb n 65536 && leb n v) ≡ true → false ≡ entriesIn t d
   unfolding sized
   entries-no h = small-is false (not-true _ h)
 
-  module _ (h : not (leb d 262144 && leb n 65536) ≡ false) where
+  module _ (h : not (leb d 262144 && leb n 65536 && leb n v) ≡ false) where
     pub entries-rest : leb (16 + 2 * d + 3 * n) (length t) ≡ entriesIn t d
     unfolding sized
     entries-rest = ap (λ (k : ℕ). leb (16 + 2 * d + 3 * k) (length t)) e ∙ small-is true (not-false _ h)
 
     pub entries-small : (d ≤ 262144) × (n ≤ 65536)
-    entries-small = let a = both (leb d 262144) (leb n 65536) (not-false _ h) in (leb-true d 262144 (a .0), leb-true n 65536 (a .1))
+    entries-small =
+        let a = both (leb d 262144 && leb n 65536) (leb n v) (not-false _ h) in
+        let b = both (leb d 262144) (leb n 65536) (a .0) in
+        (leb-true d 262144 (b .0), leb-true n 65536 (b .1))
+
+-- what the test says
+pub record EntriesIn (t : List ℕ) (d : ℕ) : Type 0 where
+  pub direct : d ≤ 262144
+  pub over : overCount t ≤ 65536
+  pub fits : overCount t ≤ getD t 3 0
+  pub long : 16 + 2 * d + 3 * overCount t ≤ length t
+
+pub entries-are-in : (t : List ℕ) (d : ℕ) → entriesIn t d ≡ true → EntriesIn t d
+entries-are-in t d e =
+    let n = overCount t in
+    let a = both (leb d 262144 && leb n 65536 && leb n (getD t 3 0)) (leb (16 + 2 * d + 3 * n) (length t)) e in
+    let b = both (leb d 262144 && leb n 65536) (leb n (getD t 3 0)) (a .0) in
+    let c = both (leb d 262144) (leb n 65536) (b .0) in
+    record {
+      direct = leb-true d 262144 (c .0);
+      over = leb-true n 65536 (c .1);
+      fits = leb-true n (getD t 3 0) (b .1);
+      long = leb-true (16 + 2 * d + 3 * n) (length t) (a .1);
+    }
 
 -- ---- the word of an overflow entry
 
@@ -119,37 +142,23 @@ module _ (t : List ℕ) (a n c k : ℕ) where
     unfolding by-key
     word-own w g f = f ∙ ap₂ by-key (sym (lt-ltb k n l)) (sym (eq-eqb v c g) ∙ ap (λ (i : ℕ). eqb i c) e)
 
-module _ (t : List ℕ) (d c n : ℕ) (e : n ≡ overCount t) where
-  -- a word found by search, where the tests say so; n entries
-  by-tests : Bool → Bool → Bool → Word
-  by-tests f g h = cond (f && g && h) (Is (overWord t (16 + 2 * d) (overCount t) c (overPlace t (16 + 2 * d) (overCount t) c))) Bad
+module _ (t : List ℕ) (d c : ℕ) (b : Bool) (e : b ≡ entriesIn t d) where
+  by-test : Bool → Word
+  by-test a = cond a (Is (overWord t (16 + 2 * d) (overCount t) c (overPlace t (16 + 2 * d) (overCount t) c))) Bad
 
-  pub over-many-direct : 262144 < d → Bad ≡ overflowWord t d c
-  unfolding by-tests
-  over-many-direct l = ap (λ (f : Bool). by-tests f (leb (overCount t) 65536) (leb (16 + 2 * d + 3 * overCount t) (length t))) (sym (lt-leb d 262144 l))
+  pub over-none : not b ≡ true → Bad ≡ overflowWord t d c
+  unfolding by-test
+  over-none g = ap by-test (sym (not-true b g) ∙ e)
 
-  module _ (l : d ≤ 262144) where
-    pub over-many : 65536 < n → Bad ≡ overflowWord t d c
-    unfolding by-tests
-    over-many g = ap₂ (λ (f b : Bool). by-tests f b (leb (16 + 2 * d + 3 * overCount t) (length t))) (sym (le-leb d 262144 l)) (sym (lt-leb (overCount t) 65536 (omega (arith, e))))
+  module _ (g : not b ≡ false) where
+    pub over-sized : EntriesIn t d
+    over-sized = entries-are-in t d (sym e ∙ not-false b g)
 
-    module _ (g : n ≤ 65536) where
-      most : (b : Bool) → leb (16 + 2 * d + 3 * overCount t) (length t) ≡ b → by-tests true true b ≡ overflowWord t d c
-      unfolding by-tests
-      most b q =
-          ap (by-tests true true) (sym q)
-          ∙ ap₂ (λ (f h : Bool). by-tests f h (leb (16 + 2 * d + 3 * overCount t) (length t))) (sym (le-leb d 262144 l)) (sym (le-leb (overCount t) 65536 (omega (arith, e))))
-
-      pub over-short : length t < 16 + 2 * d + 3 * n → Bad ≡ overflowWord t d c
-      unfolding by-tests
-      over-short i = most false (lt-leb (16 + 2 * d + 3 * overCount t) (length t) (omega (arith, e)))
-
-      pub over-found : 16 + 2 * d + 3 * n ≤ length t → (k w : ℕ) → k ≡ overPlace t (16 + 2 * d) n c → w ≡ overWord t (16 + 2 * d) n c k → Is w ≡ overflowWord t d c
-      unfolding by-tests
-      over-found i k w ek ew =
-          let p : w ≡ overWord t (16 + 2 * d) n c (overPlace t (16 + 2 * d) n c) = ew ∙ ap (overWord t (16 + 2 * d) n c) ek in
-          let q : overWord t (16 + 2 * d) n c (overPlace t (16 + 2 * d) n c) ≡ overWord t (16 + 2 * d) (overCount t) c (overPlace t (16 + 2 * d) (overCount t) c) = ap (λ (j : ℕ). overWord t (16 + 2 * d) j c (overPlace t (16 + 2 * d) j c)) e in
-          ap Is (p ∙ q) ∙ most true (le-leb (16 + 2 * d + 3 * overCount t) (length t) (omega (arith, e)))
+    pub over-found : (n k w : ℕ) → n ≡ overCount t → k ≡ overPlace t (16 + 2 * d) n c → w ≡ overWord t (16 + 2 * d) n c k → Is w ≡ overflowWord t d c
+    unfolding by-test
+    over-found n k w en ek ew =
+        ap Is (ew ∙ ap (overWord t (16 + 2 * d) n c) ek ∙ ap (λ (j : ℕ). overWord t (16 + 2 * d) j c (overPlace t (16 + 2 * d) j c)) en)
+        ∙ ap by-test (sym (not-false b g) ∙ e)
 
 -- ---- any chunk's word
 

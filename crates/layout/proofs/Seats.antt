@@ -1,14 +1,14 @@
 -- A lookup, way by way. Assumes nothing.
 use mathlib.Core.Path.{_≡_, sym, ap, ap₂, _∙_}
 use mathlib.Core.List.{List}
-use mathlib.Core.Bool.{Bool, true, false, cond, _&&_}
+use mathlib.Core.Bool.{Bool, true, false, cond, not, _&&_}
 use Prim.Native.Nat.{ℕ, _+_, _*_, _≤_, _<_}
 use native.Mathlib.Omega.{arith}
 use lib.ListN.{length, getD}
-use lib.Dec.{leb, eqb}
-use borrow.Author.Tests.{lt-ltb, le-ltb, le-leb, lt-leb}
+use lib.Dec.{eqb}
+use borrow.Author.Tests.{lt-ltb, le-ltb, not-true, not-false}
 use Rattle.layout.specs.Sizes.{directAt, overCount, totalAt}
-use Rattle.layout.specs.Short.{keyAt, overPlace, overWord}
+use Rattle.layout.specs.Short.{keyAt, overPlace, overWord, entriesIn}
 use Rattle.layout.specs.Seat.{directSeat, overSeat, overflowSeat, seatIn}
 use Rattle.layout.specs.declared.seat.Seat.{Seat}
 use Rattle.layout.specs.declared.seat.Seat.the-variants.{At, Bad}
@@ -32,36 +32,21 @@ module _ (t : List ℕ) (a n c k : ℕ) where
 
 -- ---- a chunk past the direct entries
 
-module _ (t : List ℕ) (d c n : ℕ) (e : n ≡ overCount t) where
-  by-tests : Bool → Bool → Bool → Seat
-  by-tests f g h = cond (f && g && h) (overSeat t (16 + 2 * d) (overCount t) c (overPlace t (16 + 2 * d) (overCount t) c)) Bad
+module _ (t : List ℕ) (d c : ℕ) (b : Bool) (e : b ≡ entriesIn t d) where
+  by-test : Bool → Seat
+  by-test a = cond a (overSeat t (16 + 2 * d) (overCount t) c (overPlace t (16 + 2 * d) (overCount t) c)) Bad
 
-  pub many-direct : 262144 < d → Bad ≡ overflowSeat t d c
-  unfolding by-tests
-  many-direct l = ap (λ (f : Bool). by-tests f (leb (overCount t) 65536) (leb (16 + 2 * d + 3 * overCount t) (length t))) (sym (lt-leb d 262144 l))
+  pub seat-none : not b ≡ true → Bad ≡ overflowSeat t d c
+  unfolding by-test
+  seat-none g = ap by-test (sym (not-true b g) ∙ e)
 
-  module _ (l : d ≤ 262144) where
-    pub many-over : 65536 < n → Bad ≡ overflowSeat t d c
-    unfolding by-tests
-    many-over g = ap₂ (λ (f b : Bool). by-tests f b (leb (16 + 2 * d + 3 * overCount t) (length t))) (sym (le-leb d 262144 l)) (sym (lt-leb (overCount t) 65536 (omega (arith, e))))
-
-    module _ (g : n ≤ 65536) where
-      most : (b : Bool) → leb (16 + 2 * d + 3 * overCount t) (length t) ≡ b → by-tests true true b ≡ overflowSeat t d c
-      unfolding by-tests
-      most b q =
-          ap (by-tests true true) (sym q)
-          ∙ ap₂ (λ (f h : Bool). by-tests f h (leb (16 + 2 * d + 3 * overCount t) (length t))) (sym (le-leb d 262144 l)) (sym (le-leb (overCount t) 65536 (omega (arith, e))))
-
-      pub short-table : length t < 16 + 2 * d + 3 * n → Bad ≡ overflowSeat t d c
-      unfolding by-tests
-      short-table i = most false (lt-leb (16 + 2 * d + 3 * overCount t) (length t) (omega (arith, e)))
-
-      pub long-table : 16 + 2 * d + 3 * n ≤ length t → (k : ℕ) (q : Seat) → k ≡ overPlace t (16 + 2 * d) n c → q ≡ overSeat t (16 + 2 * d) n c k → q ≡ overflowSeat t d c
-      unfolding by-tests
-      long-table i k q ek eq =
-          eq
-          ∙ (ap (overSeat t (16 + 2 * d) n c) ek
-          ∙ (ap (λ (j : ℕ). overSeat t (16 + 2 * d) j c (overPlace t (16 + 2 * d) j c)) e ∙ most true (le-leb (16 + 2 * d + 3 * overCount t) (length t) (omega (arith, e)))))
+  pub seat-found : not b ≡ false → (n k : ℕ) (q : Seat) → n ≡ overCount t → k ≡ overPlace t (16 + 2 * d) n c → q ≡ overSeat t (16 + 2 * d) n c k → q ≡ overflowSeat t d c
+  unfolding by-test
+  seat-found g n k q en ek eq =
+      eq
+      ∙ ap (overSeat t (16 + 2 * d) n c) ek
+      ∙ ap (λ (j : ℕ). overSeat t (16 + 2 * d) j c (overPlace t (16 + 2 * d) j c)) en
+      ∙ ap by-test (sym (not-false b g) ∙ e)
 
 -- ---- any chunk
 

@@ -1,10 +1,11 @@
 -- The short test: what a call on one chunk looks at, defined on any memory.
-use Prim.Native.Nat.{ℕ, zero, suc, _+_, _*_, _-_, _/_, _^_}
+use Prim.Native.Nat.{ℕ, zero, suc, _+_, _*_, _-_, _/_}
 use mathlib.Core.List.{List}
-use mathlib.Core.Bool.{Bool, cond, _&&_}
+use mathlib.Core.Bool.{Bool, true, cond, _&&_}
 use lib.ListN.{length, getD}
 use lib.Dec.{leb, ltb, eqb}
-use Rattle.layout.specs.Sizes.{directAt, overCount}
+use Rattle.document.specs.declared.sizes.Sizes.{Sizes}
+use Rattle.layout.specs.Sizes.{wide, directAt, overCount}
 use Rattle.layout.specs.Places.{decoded}
 use Rattle.layout.specs.declared.find.Word.{Word}
 use Rattle.layout.specs.declared.find.Word.the-variants as word
@@ -35,9 +36,9 @@ overWord t a n c k = cond (ltb k n && eqb (keyAt t a k) c) (getD t (a + 3 * k + 
 abbrev pub directWord : List ℕ → ℕ → Word
 directWord t c = cond (ltb (directAt c) (length t)) (word.Is (getD t (directAt c) 0)) word.Bad
 
--- the entries in use lie inside it
+-- the entries in use are at most the sizes' and lie inside it
 abbrev pub entriesIn : List ℕ → ℕ → Bool
-entriesIn t d = leb d 262144 && leb (overCount t) 65536 && leb (16 + 2 * d + 3 * overCount t) (length t)
+entriesIn t d = leb d 262144 && leb (overCount t) 65536 && leb (overCount t) (getD t 3 0) && leb (16 + 2 * d + 3 * overCount t) (length t)
 
 abbrev pub overflowWord : List ℕ → ℕ → ℕ → Word
 overflowWord t d c = cond (entriesIn t d) (word.Is (overWord t (16 + 2 * d) (overCount t) c (overPlace t (16 + 2 * d) (overCount t) c))) word.Bad
@@ -45,11 +46,20 @@ overflowWord t d c = cond (entriesIn t d) (word.Is (overWord t (16 + 2 * d) (ove
 unfoldable pub wordIn : List ℕ → ℕ → Word
 wordIn t c = cond (ltb c (getD t 2 0)) (directWord t c) (overflowWord t (getD t 2 0) c)
 
--- a place's part of its pool, where chunks have 2^s ids and rows m offsets, rows and pages being so long
-abbrev pub spotAt : ℕ → ℕ → ℕ → ℕ → Place → Spot
-spotAt s m pages rows Absent = Nowhere
-spotAt s m pages rows (Sparse r l) = cond (leb m 1024 && leb l m && leb (r * m + m) rows) (Row (r * m) m l) Bad
-spotAt s m pages rows (Dense p) = cond (ltb p 65536 && leb (p * 2 ^ (s - 6) + 2 ^ (s - 6)) pages) (Page (p * 2 ^ (s - 6)) (2 ^ (s - 6))) Bad
+-- a place's part of its pool
+abbrev pub spotOn : Sizes → Place → Spot
+spotOn h Absent = Nowhere
+spotOn h (Sparse r l) = Row (r * h .m) (h .m) l
+spotOn h (Dense p) = Page (p * wide h) (wide h)
 
-unfoldable pub spotOf : ℕ → ℕ → ℕ → ℕ → ℕ → Spot
-spotOf s m pages rows w = spotAt s m pages rows (decoded w)
+-- its row or page is one of the sizes' and lies inside its slice, pages and rows being so long
+abbrev pub spotFits : Sizes → ℕ → ℕ → Place → Bool
+spotFits h pages rows Absent = true
+spotFits h pages rows (Sparse r l) = ltb r (h .r) && leb (h .m) 1024 && leb l (h .m) && leb (r * h .m + h .m) rows
+spotFits h pages rows (Dense p) = ltb p (h .p) && ltb p 65536 && leb (p * wide h + wide h) pages
+
+abbrev pub spotAt : Sizes → ℕ → ℕ → Place → Spot
+spotAt h pages rows q = cond (spotFits h pages rows q) (spotOn h q) Bad
+
+unfoldable pub spotOf : Sizes → ℕ → ℕ → ℕ → Spot
+spotOf h pages rows w = spotAt h pages rows (decoded w)

@@ -1,8 +1,10 @@
 // The short test: what a call on one chunk looks at, on any memory.
 ghost use mathlib.Core.Path.{_≡_};
 ghost use Prim.Native.Nat.{_+_, _*_, _^_, _≤_, _<_};
-ghost use Rattle.layout.specs.Sizes.{overCount};
-ghost use Rattle.layout.specs.Short.{overPlace, overWord, entriesIn, overflowWord, wordIn, spotOf};
+ghost use lib.ListN.{getD};
+ghost use Rattle.layout.specs.Sizes.{headerAt, overCount};
+ghost use Rattle.layout.specs.Short.{overPlace, overWord, entriesIn, overflowWord, wordIn, spotAt, spotOf};
+ghost use Rattle.layout.specs.declared.place.Place.the-variants.{Sparse, Dense};
 use crate::place;
 use crate::place::Place;
 use document::sizes::Sizes;
@@ -44,7 +46,8 @@ pub fn over_place(table: &[u64], a: u64, n: u64, c: u64) -> u64
 // How many overflow ids are below c.
 pub fn over_below(table: &[u64], h: Sizes, c: u64) -> u64
     requires { ⌜ (h .d ≤ 262144) × (overCount (now table) ≤ 65536) ⌝ }
-    ensures { λ k. ⌜ (k ≡ overPlace (now (table .entry)) (16 + 2 * h .d) (overCount (now (table .entry))) c) × (k ≤ overCount (now (table .entry))) ⌝ }
+    ensures { λ k. ⌜ (let t = now (table .entry) in
+        (k ≡ overPlace t (16 + 2 * h .d) (overCount t) c) × (k ≤ overCount t)) ⌝ }
 {
     over_place(table, 16 + 2 * h.d, element::at(table, 7), c)
 }
@@ -63,12 +66,12 @@ pub fn over_word(table: &[u64], a: u64, n: u64, c: u64, k: u64) -> u64
     element::at(table, a + 3 * k + 1)
 }
 
-// The entries in use, with d direct ones, lie inside the table.
+// The entries in use, with d direct ones, are at most the table's V and lie inside it.
 pub fn entries_in(table: &[u64], d: u64) -> bool
     ensures { λ b. ⌜ b ≡ entriesIn (now (table .entry)) d ⌝ }
 {
     let n = element::at(table, 7);
-    if !((d <= 262144) & (n <= 65536)) {
+    if !((d <= 262144) & (n <= 65536) & (n <= element::at(table, 3))) {
         return false;
     }
     16 + 2 * d + 3 * n <= table.len() as u64
@@ -78,17 +81,11 @@ pub fn entries_in(table: &[u64], d: u64) -> bool
 pub fn overflow_word(table: &[u64], d: u64, c: u64) -> Word
     ensures { λ w. ⌜ w ≡ overflowWord (now (table .entry)) d c ⌝ }
 {
+    if !entries_in(table, d) {
+        return Word::Bad;
+    }
     let n = element::at(table, 7);
-    if 262144 < d {
-        return Word::Bad;
-    }
-    if 65536 < n {
-        return Word::Bad;
-    }
     let a = 16 + 2 * d;
-    if (table.len() as u64) < a + 3 * n {
-        return Word::Bad;
-    }
     Word::Is(over_word(table, a, n, c, over_place(table, a, n, c)))
 }
 
@@ -108,36 +105,47 @@ pub fn word_of(table: &[u64], c: u64) -> Word
     Word::Bad
 }
 
-// The part of a pool that word w names, where chunks have 2^s ids, rows m offsets, and the pools are so long.
-pub fn spot_of(s: u64, m: u64, pages: u64, rows: u64, w: u64) -> Spot
-    requires { ⌜ (9 ≤ s) × (s ≤ 25) ⌝ }
-    ensures { λ q. ⌜ q ≡ spotOf s m pages rows w ⌝ }
+// The part of row r with l members: one of the table's R, in rows that are so long.
+fn row_spot(table: &[u64], rows: u64, r: u64, l: u64) -> Spot
+    requires { ⌜ r ≤ 262144 ⌝ }
+    ensures { λ q. ⌜ q ≡ spotAt (headerAt (now (table .entry))) 0 rows (Sparse r l) ⌝ }
+{
+    let m = element::at(table, 1);
+    if !((r < element::at(table, 4)) & (m <= 1024) & (l <= m)) {
+        return Spot::Bad;
+    }
+    let a = power::times(r, m);
+    if rows < a + m {
+        return Spot::Bad;
+    }
+    Spot::Row(a as usize, m as usize, l as usize)
+}
+
+// The part of page p: one of the table's P, in pages that are so long.
+fn page_spot(table: &[u64], pages: u64, p: u64) -> Spot
+    requires { ⌜ (9 ≤ getD (now table) 0 0) × (getD (now table) 0 0 ≤ 25) ⌝ }
+    ensures { λ q. ⌜ q ≡ spotAt (headerAt (now (table .entry))) pages 0 (Dense p) ⌝ }
+{
+    let s = element::at(table, 0);
+    if !((p < element::at(table, 5)) & (p < 65536)) {
+        return Spot::Bad;
+    }
+    let a = power::scaled(p, s - 6);
+    let n = power::pow2(s - 6);
+    if pages < a + n {
+        return Spot::Bad;
+    }
+    Spot::Page(a as usize, n as usize)
+}
+
+// The part of a pool that word w names, where the pools are so long.
+pub fn spot_of(table: &[u64], pages: u64, rows: u64, w: u64) -> Spot
+    requires { ⌜ (9 ≤ getD (now table) 0 0) × (getD (now table) 0 0 ≤ 25) ⌝ }
+    ensures { λ q. ⌜ q ≡ spotOf (headerAt (now (table .entry))) pages rows w ⌝ }
 {
     match place::decode(w) {
         Place::Absent => Spot::Nowhere,
-        Place::Sparse(r, l) => {
-            if 1024 < m {
-                return Spot::Bad;
-            }
-            if m < l {
-                return Spot::Bad;
-            }
-            let a = power::times(r, m);
-            if rows < a + m {
-                return Spot::Bad;
-            }
-            Spot::Row(a as usize, m as usize, l as usize)
-        }
-        Place::Dense(p) => {
-            if 65536 <= p {
-                return Spot::Bad;
-            }
-            let a = power::scaled(p, s - 6);
-            let n = power::pow2(s - 6);
-            if pages < a + n {
-                return Spot::Bad;
-            }
-            Spot::Page(a as usize, n as usize)
-        }
+        Place::Sparse(r, l) => row_spot(table, rows, r, l),
+        Place::Dense(p) => page_spot(table, pages, p),
     }
 }

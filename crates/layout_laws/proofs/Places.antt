@@ -20,11 +20,11 @@ use Rattle.layout.specs.Entries.{placeOf, wordOf}
 use Rattle.layout.specs.Meaning.{offsets, holds}
 use Rattle.layout.specs.Follows.{RowListed}
 use Rattle.layout.specs.Tests.{Walked}
-use Rattle.layout.specs.Short.{spotOf}
+use Rattle.layout.specs.Short.{spotOn, spotOf}
 use Rattle.document.specs.declared.sizes.Sizes.{Sizes}
 use Rattle.layout.specs.declared.place.Place.{Place}
 use Rattle.layout.specs.declared.place.Place.the-variants.{Absent, Sparse, Dense}
-use Rattle.layout_laws.specs.Chunks.{spotOn, spotHas, spotBelow, belowIn}
+use Rattle.layout_laws.specs.Chunks.{spotHas, spotBelow, belowIn}
 use Rattle.layout_laws.proofs.Sizes.{wide-top, part-short}
 use Rattle.layout_laws.proofs.Short.{spot-is}
 
@@ -57,7 +57,7 @@ spot-below h x (Sparse r l) o = refl
 spot-below h x (Dense p) o = refl
 
 -- what the short test finds says whether n is a member
-pub holds-spot : (x : Mem) → Walked x (head x) → (n : ℕ) → has (holds x) (pos n) ≡ spotHas x (spotOf (head x .s) (head x .m) (length (x .pages)) (length (x .rows)) (wordOf (head x) (x .table) (n / top (head x)))) (n % top (head x))
+pub holds-spot : (x : Mem) → Walked x (head x) → (n : ℕ) → has (holds x) (pos n) ≡ spotHas x (spotOf (head x) (length (x .pages)) (length (x .rows)) (wordOf (head x) (x .table) (n / top (head x)))) (n % top (head x))
 unfolding holds
 holds-spot x w n = sym (ap (λ s. spotHas x s (n % top (head x))) (spot-is w (n / top (head x))) ∙ spot-has (head x) x (placeOf (head x) (x .table) (n / top (head x))) (n % top (head x)))
 

@@ -91,7 +91,7 @@ module _ {x : Mem} (w : Follows x) (r : ranked x ≡ true) where
           count-cut w k c u ∙ ap (sumTo (membersAt (head x) x)) q ∙ sym (w .total ∙ kept-ranked x r (sumTo (membersAt (head x) x) (entries (head x) (x .table))))
 
   -- of any id: its chunk's first id's, and what the short test's part has below it
-  pub id-rank : (n : ℕ) → count (holds x) n ≡ firstRank x (n / top (head x)) + spotBelow x (spotOf (head x .s) (head x .m) (length (x .pages)) (length (x .rows)) (wordOf (head x) (x .table) (n / top (head x)))) (n % top (head x))
+  pub id-rank : (n : ℕ) → count (holds x) n ≡ firstRank x (n / top (head x)) + spotBelow x (spotOf (head x) (length (x .pages)) (length (x .rows)) (wordOf (head x) (x .table) (n / top (head x)))) (n % top (head x))
   unfolding firstRank
   id-rank n =
       count-rank w n

@@ -20,6 +20,7 @@ use Rattle.layout.specs.Spare.{Beyond, Spare}
 use Rattle.document.specs.declared.sizes.Sizes.{Sizes}
 use Rattle.document.specs.declared.answer.Outcome.the-variants.{Done, Refused}
 use Rattle.layout.specs.declared.find.Word.the-variants as word
+use Rattle.layout.proofs.Finds.{EntriesIn, entries-are-in}
 use Rattle.layout.proofs.Tests.{room-of}
 use Rattle.layout.proofs.Parts.{length-put, put-off}
 use Rattle.layout.proofs.Added.{added-length, added-high}
@@ -169,21 +170,21 @@ module _ (h : Sizes) (t : List ℕ) (o : Ordered h t) (fits : overCount t ≤ h 
       go false e = over (ltb-false c (h .d) e) (ltb (sought h t c) (overCount t)) refl (eqb (key (sought h t c)) c) refl
 
 -- a chunk whose word is found, and not 0, has an entry
-module _ (t : List ℕ) (c w : ℕ) (fits : headerAt t .d ≤ c → overCount t ≤ headerAt t .v) (some : w ≢ 0) where
+module _ (t : List ℕ) (c w : ℕ) (some : w ≢ 0) where
   abbrev at : ℕ
   at = sought (headerAt t) t c
 
-  known-over : headerAt t .d ≤ c → (a : Bool) → ltb at (overCount t) ≡ a → (b : Bool) → eqb (getD t (overAt (headerAt t) at) 0) c ≡ b
+  known-over : EntriesIn t (headerAt t .d) → (a : Bool) → ltb at (overCount t) ≡ a → (b : Bool) → eqb (getD t (overAt (headerAt t) at) 0) c ≡ b
       → cond (a && b) (getD t (overAt (headerAt t) at + 1) 0) 0 ≡ w → EntryRoom (headerAt t) t c
-  known-over ge true p true q e =
+  known-over in-table true p true q e =
       let l = ltb-true at (overCount t) p in
-      let f = fits ge in
+      let f = in-table .fits in
       own (record { there = l; is = eqb-true (getD t (overAt (headerAt t) at) 0) c q; inside = omega arith })
-  known-over ge true p false q e = absurd (some (sym e))
-  known-over ge false p b q e = absurd (some (sym e))
+  known-over in-table true p false q e = absurd (some (sym e))
+  known-over in-table false p b q e = absurd (some (sym e))
 
-  known-in : (a : Bool) (u : ℕ) → cond a (word.Is u) word.Bad ≡ word.Is w → u ≡ w
-  known-in true u e = cc
+  known-in : (a : Bool) (u : ℕ) → cond a (word.Is u) word.Bad ≡ word.Is w → (a ≡ true) × (u ≡ w)
+  known-in true u e = (refl, cc)
   known-in false u e = absurd (let z : _≡_ {A = ℕ} 0 1 = cc in omega arith)
 
   pub room-known : wordIn t c ≡ word.Is w → EntryRoom (headerAt t) t c
@@ -193,8 +194,9 @@ module _ (t : List ℕ) (c w : ℕ) (fits : headerAt t .d ≤ c → overCount t 
       go : (b : Bool) → ltb c (headerAt t .d) ≡ b → cond b (directWord t c) (overflowWord t (headerAt t .d) c) ≡ word.Is w → EntryRoom (headerAt t) t c
       go true q e = direct (ltb-true c (headerAt t .d) q)
       go false q e =
-          known-over (ltb-false c (headerAt t .d) q) (ltb at (overCount t)) refl (eqb (getD t (overAt (headerAt t) at) 0) c) refl
-          (known-in (entriesIn t (headerAt t .d)) (overWord t (16 + 2 * headerAt t .d) (overCount t) c at) e)
+          let k = known-in (entriesIn t (headerAt t .d)) (overWord t (16 + 2 * headerAt t .d) (overCount t) c at) e in
+          known-over (entries-are-in t (headerAt t .d) (k .0)) (ltb at (overCount t)) refl (eqb (getD t (overAt (headerAt t) at) 0) c) refl
+          (k .1)
 
 -- ---- rows and pages
 

@@ -1,4 +1,4 @@
--- What is said of one chunk, by its place: its part of a pool, its members, its kind as a yes or no.
+-- What is said of one chunk, by its place: its members, its kind as a yes or no.
 use Prim.Native.Nat.{ℕ, _+_, _*_}
 use mathlib.Core.List.{List}
 use mathlib.Core.Bool.{Bool, true, false, cond}
@@ -9,7 +9,7 @@ use Rattle.sparse.specs.Row.{rowOf, member, belowOf}
 use Rattle.dense.specs.Bits.{isSet, bitsTo}
 use Rattle.layout.specs.Mem.{Mem}
 use Rattle.document.specs.Sizes.{top}
-use Rattle.layout.specs.Sizes.{wide, head, overCount, totalAt}
+use Rattle.layout.specs.Sizes.{head, overCount, totalAt}
 use Rattle.layout.specs.Places.{rowPart, pagePart}
 use Rattle.layout.specs.Entries.{entries, prefixAt, placeOf}
 use Rattle.document.specs.State.{Kind, absent, sparse, dense}
@@ -20,12 +20,6 @@ use Rattle.layout.specs.declared.find.Spot.{Spot}
 use Rattle.layout.specs.declared.find.Spot.the-variants.{Nowhere, Row, Page, Bad}
 use Rattle.layout.specs.declared.place.Place.{Place}
 use Rattle.layout.specs.declared.place.Place.the-variants.{Absent, Sparse, Dense}
-
--- the part of a pool that a place is
-abbrev pub spotOn : Sizes → Place → Spot
-spotOn h Absent = Nowhere
-spotOn h (Sparse r l) = Row (r * h .m) (h .m) l
-spotOn h (Dense p) = Page (p * wide h) (wide h)
 
 -- what a part holds: whether offset o is in it, and how many below o
 abbrev pub spotHas : Mem → Spot → ℕ → Bool

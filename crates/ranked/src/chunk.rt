@@ -11,22 +11,7 @@ use dense::block;
 use document::answer::Amount;
 use layout::find;
 use layout::find::Spot;
-use numbers::place as element;
 use sparse::Place;
-
-// The part of a pool that word w names.
-pub fn spot_by(pages: &[u64], rows: &[u32], blocks: &[u32], table: &[u64], s: u64, w: u64) -> Spot
-    requires { ⌜ (9 ≤ s) × (s ≤ 25) × (s ≡ getD (now table) 0 0) ⌝ }
-    ensures { λ q. ⌜ q ≡ spotBy (memOf (pages .entry) (rows .entry) (blocks .entry) (table .entry)) w ⌝ }
-{
-    find::spot_of(
-        s,
-        element::at(table, 1),
-        pages.len() as u64,
-        rows.len() as u64,
-        w,
-    )
-}
 
 // In a page: the count of the offset's block, and what its eight words have below it.
 pub fn in_page(pages: &[u64], blocks: &[u32], a: usize, n: usize, o: u64) -> Amount
@@ -53,9 +38,10 @@ pub fn below(
     o: u64,
 ) -> Amount
     requires { ⌜ (9 ≤ s) × (s ≤ 25) × (s ≡ getD (now table) 0 0) × (o < 2 ^ s) ⌝ }
-    ensures { λ r. ⌜ (r ≡ belowAt (memOf (pages .entry) (rows .entry) (blocks .entry) (table .entry)) o (spotBy (memOf (pages .entry) (rows .entry) (blocks .entry) (table .entry)) w)) × Small r ⌝ }
+    ensures { λ r. ⌜ (let x = memOf (pages .entry) (rows .entry) (blocks .entry) (table .entry) in
+        (r ≡ belowAt x o (spotBy x w)) × Small r) ⌝ }
 {
-    match spot_by(pages, rows, blocks, table, s, w) {
+    match find::spot_of(table, pages.len() as u64, rows.len() as u64, w) {
         Spot::Nowhere => Amount::Of(0),
         Spot::Row(a, n, l) => {
             let e = a + n;
@@ -102,9 +88,10 @@ pub fn has(
     o: u64,
 ) -> bool
     requires { ⌜ (9 ≤ s) × (s ≤ 25) × (s ≡ getD (now table) 0 0) × (o < 2 ^ s) ⌝ }
-    ensures { λ r. ⌜ r ≡ hasSpot (memOf (pages .entry) (rows .entry) (blocks .entry) (table .entry)) o (spotBy (memOf (pages .entry) (rows .entry) (blocks .entry) (table .entry)) w) ⌝ }
+    ensures { λ r. ⌜ (let x = memOf (pages .entry) (rows .entry) (blocks .entry) (table .entry) in
+        r ≡ hasSpot x o (spotBy x w)) ⌝ }
 {
-    match spot_by(pages, rows, blocks, table, s, w) {
+    match find::spot_of(table, pages.len() as u64, rows.len() as u64, w) {
         Spot::Nowhere => false,
         Spot::Row(a, n, l) => {
             let e = a + n;

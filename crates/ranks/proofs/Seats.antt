@@ -5,7 +5,7 @@ use Prim.Native.Nat.{ℕ, _+_, _*_, _≤_, _<_}
 use native.Mathlib.Omega.{arith}
 use lib.ListN.{length, getD}
 use lib.Dec.{ltb, eqb}
-use borrow.Author.Tests.{ltb-true, ltb-false, lt-ltb, le-ltb, le-leb}
+use borrow.Author.Tests.{ltb-true, ltb-false, lt-ltb, le-ltb}
 use Rattle.layout.specs.Mem.{Mem}
 use Rattle.layout.specs.Sizes.{directAt, overAt, head, overCount, totalAt}
 use Rattle.layout.specs.Entries.{entries, prefixAt, wordOf}
@@ -13,7 +13,7 @@ use Rattle.layout.specs.Tests.{Walked}
 use Rattle.layout.specs.Short.{keyAt, overPlace}
 use Rattle.layout_laws.specs.Chunks.{entryFrom, firstRank}
 use Rattle.layout_laws.proofs.Entries.{walked-ordered, word-direct, word-of-direct, prefix-direct, prefix-over}
-use Rattle.layout_laws.proofs.Short.{over-word-is}
+use Rattle.layout_laws.proofs.Short.{over-word-is, entries-inside}
 use Rattle.layout.specs.Seat.{directSeat, overSeat, overflowSeat, seatIn}
 use Rattle.layout.specs.declared.seat.Seat.the-variants as seat
 
@@ -77,9 +77,6 @@ module _ {x : Mem} (w : Walked x (head x)) (c : ℕ) where
           ∙ ap₂ seat.At (sym (word-of-direct (head x) (x .table) (walked-ordered w) c l ∙ word-direct (head x) (x .table) c l)) (sym (first-direct l))
       go false e =
           let l = ltb-false c (head x .d) e in
-          let r = w .room .in-table in
-          let f = w .over-fits in
-          let z = w .sizes in
           ap (λ (b : Bool). cond b (overSeat (x .table) (16 + 2 * head x .d) (overCount (x .table)) c (k l)) seat.Bad)
-          (ap₂ _&&_ (ap₂ _&&_ (le-leb (head x .d) 262144 (omega arith)) (le-leb (overCount (x .table)) 65536 (omega arith))) (le-leb (16 + 2 * head x .d + 3 * overCount (x .table)) (length (x .table)) (omega arith)))
+          (entries-inside x (w .sizes) (w .room) (w .over-fits))
           ∙ over-seat l

@@ -22,6 +22,7 @@ use Rattle.layout.specs.Follows.{Owned, RowListed, Follows}
 use Rattle.document.specs.declared.answer.Amount.the-variants as amount
 use Rattle.layout.specs.declared.place.Place.{Place}
 use Rattle.layout.specs.declared.place.Place.the-variants.{Absent, Sparse, Dense}
+use Rattle.layout.specs.Short.{spotOn}
 use Rattle.layout_laws.specs.Chunks as chunk
 use Rattle.layout_laws.proofs.Sizes.{blocks-wide, blocks-top, slot-inside}
 use Rattle.layout_laws.proofs.Members.{listed-rising}
@@ -57,13 +58,13 @@ module _ {x : Mem} (w : Follows x) (r : ranked x ≡ true) (c o : ℕ) (l : o < 
       ∙ ap (λ (t : Bool). cond t (amount.Of (getD (x .blocks) (p * blocksOf (head x) + o / 512) 0 + block)) (amount.Refused 3)) (lt-ltb (p * blocksOf (head x) + o / 512) (length (x .blocks)) (omega arith))
       ∙ ap amount.Of (ap (λ (k : ℕ). k + block) (block-rank w r p (o / 512) m n) ∙ block-split (pagePart (head x) (x .pages) p) o)
 
-  pub below-is : (p : Place) → Owned (head x) (x .table) c p → RowListed (head x) (x .rows) p → belowAt x o (chunk.spotOn (head x) p) ≡ amount.Of (chunk.belowIn (head x) x p o)
+  pub below-is : (p : Place) → Owned (head x) (x .table) c p → RowListed (head x) (x .rows) p → belowAt x o (spotOn (head x) p) ≡ amount.Of (chunk.belowIn (head x) x p o)
   below-is Absent u v = refl
   below-is (Sparse i n) u v = ap amount.Of (lower-rising (rowPart (head x) (x .rows) i) n (listed-rising (head x) (rowPart (head x) (x .rows) i) n v) o)
   below-is (Dense p) u v = page-below p (u .there)
 
 -- whether an offset is there
-pub has-is : (x : Mem) (o : ℕ) (p : Place) → RowListed (head x) (x .rows) p → hasSpot x o (chunk.spotOn (head x) p) ≡ offsets (head x) x p o
+pub has-is : (x : Mem) (o : ℕ) (p : Place) → RowListed (head x) (x .rows) p → hasSpot x o (spotOn (head x) p) ≡ offsets (head x) x p o
 has-is x o Absent v = refl
 has-is x o (Sparse i n) v =
     let up = listed-rising (head x) (rowPart (head x) (x .rows) i) n v in

@@ -1,5 +1,5 @@
 -- A table that is too short says nothing; else the word says the part. Assumes nothing.
-use mathlib.Core.Path.{_≡_, sym, _∙_, ap, ap₂}
+use mathlib.Core.Path.{_≡_, sym, _∙_, ap}
 use Rattle.layout.specs.Mem.{Mem, memOf}
 use Rattle.calls.specs.Reading.{spotIf}
 use Rattle.idset.proofs.Spots.{spot-word}
@@ -22,14 +22,11 @@ enum-told c = search needs
 returns : tie.Need-returns
 returns c = ap (spotIf (memory (c .before .before .before .before .before .before .before))) (sym (c .enum-told .given .1) ∙ c .before .before .word-of .ensures)
 
-at-requires : tie.Need-at-requires
-at-requires c κs = search needs
-
 spot-of-requires : tie.Need-spot-of-requires
 spot-of-requires c κs = search needs
 
 returns-2 : tie.Need-returns-2
-returns-2 c = spot-word (memory (c .before .before .before .before .before .before .before .before .before .before)) _ _ _ _ _ (c .before .before .before .before .before .before .before .before .before .before .pre .2) (c .before .at .ensures) (sym (c .before .before .before .w .given .1) ∙ c .before .before .before .before .before .word-of .ensures) (c .spot-of .ensures)
+returns-2 c = spot-word (memory (c .before .before .before .before .before .before .before .before .before)) _ _ _ (sym (c .before .before .w .given .1) ∙ c .before .before .before .before .word-of .ensures) (c .spot-of .ensures)
 
 pub spot-spec : {M : Type 1} → statement M
 spot-spec =
@@ -39,6 +36,5 @@ spot-spec =
     enum-known-w
     enum-told
     returns
-    at-requires
     spot-of-requires
     returns-2)

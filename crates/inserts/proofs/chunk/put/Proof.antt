@@ -13,7 +13,7 @@ use Rattle.calls.specs.Insert.{acted}
 use Rattle.calls.proofs.Places.{Names, none-at}
 use Rattle.insert_plan.specs.Ready.{Ready}
 use Rattle.insert_plan.proofs.Readies.{page-ready, row-ready, ready-begin, ready-row}
-use Rattle.inserts.proofs.Chunks.{spot-by, named, put-bad, put-place, put-outside, put-page}
+use Rattle.inserts.proofs.Chunks.{named, put-bad, put-place, put-outside, put-page}
 use borrow.Author.Needs.{needs}
 use Rattle.inserts.proofs.chunk.put.Statement.{statement}
 use Rattle.inserts.proofs.chunk.put.Tie as tie
@@ -23,16 +23,16 @@ memory c = memOf (c .args .pages) (c .args .rows) (c .args .blocks) (c .args .ta
 
 module _ (c : tie.After-spot-of) where
   abbrev start : tie.Start
-  start = c .before .before .before .before .before .before .before .before .before .before .before .before
+  start = c .before .before .before .before .before .before .before .before .before .before .before
 
   abbrev w : ℕ
-  w = c .before .before .before .before .w .given .0 .0
+  w = c .before .before .before .w .given .0 .0
 
   word-is : word.Is w ≡ wordIn (memory start .table) (start .args .c)
-  word-is = sym (c .before .before .before .before .w .given .1) ∙ c .before .before .before .before .before .before .word-of .ensures
+  word-is = sym (c .before .before .before .w .given .1) ∙ c .before .before .before .before .before .word-of .ensures
 
   spotted : (q : Spot) → c .spot-of .result ≡ q → q ≡ spotBy (memory start) w
-  spotted q e = spot-by (memory start) _ _ w _ q (start .pre .2) (c .before .at .ensures) (c .spot-of .ensures) e
+  spotted q e = sym e ∙ c .spot-of .ensures
 
   page-in : (a n : ℕ) → c .spot-of .result ≡ Page a n → (a + n ≤ length (memory start .pages)) × (start .args .o < 64 * n)
   page-in a n e = page-ready (memory start) (start .args .c) (start .args .o) (start .args .s) (start .pre .2) (start .pre .0) (start .pre .1) (start .pre .3) (start .pre .4) w a n (spotted (Page a n) e)
@@ -60,9 +60,6 @@ returns : tie.Need-returns
 returns c =
     let a = c .before .before .before .before .before .before .before .before in
     put-bad (memory a) (a .args .c) (a .args .o) (sym (c .enum-told .given .1) ∙ c .before .before .word-of .ensures)
-
-at-requires : tie.Need-at-requires
-at-requires c κs = search needs
 
 spot-of-requires : tie.Need-spot-of-requires
 spot-of-requires c κs = search needs
@@ -173,7 +170,6 @@ put-spec =
     enum-told
     same-length
     returns
-    at-requires
     spot-of-requires
     enum-told-2
     begin-requires

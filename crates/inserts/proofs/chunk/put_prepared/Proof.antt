@@ -10,7 +10,7 @@ use Rattle.layout.specs.declared.find.Spot.the-variants.{Page}
 use Rattle.calls.specs.Reading.{spotBy}
 use Rattle.insert_plan.proofs.Readies.{page-ready}
 use Rattle.calls.proofs.Places.{none-at, row-at}
-use Rattle.inserts.proofs.Chunks.{spot-by, prepared-bad, prepared-place, prepared-outside, prepared-page}
+use Rattle.inserts.proofs.Chunks.{prepared-bad, prepared-place, prepared-outside, prepared-page}
 use borrow.Author.Needs.{needs}
 use Rattle.inserts.proofs.chunk.put_prepared.Statement.{statement}
 use Rattle.inserts.proofs.chunk.put_prepared.Tie as tie
@@ -20,16 +20,16 @@ memory c = memOf (c .args .pages) (c .args .rows) (c .args .blocks) (c .args .ta
 
 module _ (c : tie.After-spot-of) where
   abbrev start : tie.Start
-  start = c .before .before .before .before .before .before .before .before .before .before
+  start = c .before .before .before .before .before .before .before .before .before
 
   abbrev w : ℕ
-  w = c .before .before .before .w .given .0 .0
+  w = c .before .before .w .given .0 .0
 
   word-is : word.Is w ≡ wordIn (memory start .table) (start .args .c)
-  word-is = sym (c .before .before .before .w .given .1) ∙ c .before .before .before .before .before .word-of .ensures
+  word-is = sym (c .before .before .w .given .1) ∙ c .before .before .before .before .word-of .ensures
 
   spotted : (q : Spot) → c .spot-of .result ≡ q → q ≡ spotBy (memory start) w
-  spotted q e = spot-by (memory start) _ _ w _ q (start .pre .2) (c .before .at .ensures) (c .spot-of .ensures) e
+  spotted q e = sym e ∙ c .spot-of .ensures
 
   page-in : (a n : ℕ) → c .spot-of .result ≡ Page a n → (a + n ≤ length (memory start .pages)) × (start .args .o < 64 * n)
   page-in a n e = page-ready (memory start) (start .args .c) (start .args .o) (start .args .s) (start .pre .2) (start .pre .0) (start .pre .1) (start .pre .3) (start .pre .4) w a n (spotted (Page a n) e)
@@ -47,9 +47,6 @@ returns : tie.Need-returns
 returns c =
     let a = c .before .before .before .before .before .before .before in
     prepared-bad (memory a) (a .args .c) (a .args .o) (sym (c .enum-told .given .1) ∙ c .before .before .word-of .ensures)
-
-at-requires : tie.Need-at-requires
-at-requires c κs = search needs
 
 spot-of-requires : tie.Need-spot-of-requires
 spot-of-requires c κs = search needs
@@ -107,7 +104,6 @@ put-prepared-spec =
     enum-known-w
     enum-told
     returns
-    at-requires
     spot-of-requires
     enum-told-2
     enum-told-3

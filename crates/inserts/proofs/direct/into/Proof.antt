@@ -9,7 +9,7 @@ use Rattle.layout.specs.declared.find.Spot.{Spot}
 use Rattle.layout.specs.declared.find.Spot.the-variants.{Page}
 use Rattle.calls.specs.Reading.{spotBy}
 use Rattle.insert_plan.proofs.Readies.{page-ready}
-use Rattle.inserts.proofs.Chunks.{spot-by, put-page, prepared-page}
+use Rattle.inserts.proofs.Chunks.{put-page, prepared-page}
 use Rattle.inserts.proofs.Ways.{into-none, into-is}
 use borrow.Author.Needs.{needs}
 use Rattle.inserts.proofs.direct.into.Statement.{statement}
@@ -20,16 +20,16 @@ memory c = memOf (c .args .pages) (c .args .rows) (c .args .blocks) (c .args .ta
 
 module _ (c : tie.After-spot-of) where
   abbrev start : tie.Start
-  start = c .before .before .before .before .before .before .before .before .before .before .before .before
+  start = c .before .before .before .before .before .before .before .before .before .before .before
 
   abbrev w : ℕ
-  w = c .before .before .before .w .given .0 .0
+  w = c .before .before .w .given .0 .0
 
   word-is : word.Is w ≡ wordIn (memory start .table) (start .args .c)
-  word-is = sym (c .before .before .before .w .given .1) ∙ c .before .before .before .before .before .word-of .ensures
+  word-is = sym (c .before .before .w .given .1) ∙ c .before .before .before .before .word-of .ensures
 
   spotted : (q : Spot) → c .spot-of .result ≡ q → q ≡ spotBy (memory start) w
-  spotted q e = spot-by (memory start) _ _ w _ q (start .pre .2) (c .before .at2 .ensures) (c .spot-of .ensures) e
+  spotted q e = sym e ∙ c .spot-of .ensures
 
   page-in : (a n : ℕ) → c .spot-of .result ≡ Page a n → (a + n ≤ length (memory start .pages)) × (start .args .o < 64 * n)
   page-in a n e = page-ready (memory start) (start .args .c) (start .args .o) (start .args .s) (start .pre .2) (start .pre .0) (start .pre .1) (start .pre .3) (start .pre .4) w a n (spotted (Page a n) e)
@@ -52,9 +52,6 @@ enum-told c = search needs
 returns-2 : tie.Need-returns-2
 returns-2 c = into-none (memory (c .before .before .before .before .before .before .before .before .before)) _ _
 
-at-requires-2 : tie.Need-at-requires-2
-at-requires-2 c κs = search needs
-
 spot-of-requires : tie.Need-spot-of-requires
 spot-of-requires c κs = search needs
 
@@ -62,7 +59,7 @@ enum-known-a : tie.Need-enum-known-a
 enum-known-a c = search needs
 
 returns-3 : tie.Need-returns-3
-returns-3 c = into-none (memory (c .before .before .before .before .before .before .before .before .before .before .before .before .before)) _ _
+returns-3 c = into-none (memory (c .before .before .before .before .before .before .before .before .before .before .before .before)) _ _
 
 mark-requires : tie.Need-mark-requires
 mark-requires c κs = page-in (c .before .before .before .before) _ _ (c .before .before .a .given .1)
@@ -90,7 +87,6 @@ into-spec =
     enum-known-w
     enum-told
     returns-2
-    at-requires-2
     spot-of-requires
     enum-known-a
     returns-3

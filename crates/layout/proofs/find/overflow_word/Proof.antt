@@ -1,54 +1,49 @@
--- Each way through is one of the laws on the search past the direct entries. Assumes nothing.
-use Rattle.layout.proofs.Finds.{over-many-direct, over-many, over-short, over-found}
+-- The entries are tested; then each way is a law on the search past the direct ones. Assumes nothing.
+use native.Mathlib.Omega.{arith}
+use Rattle.layout.proofs.Finds.{over-none, over-found, over-sized}
 use borrow.Author.Needs.{needs}
 use Rattle.layout.proofs.find.overflow_word.Statement.{statement}
 use Rattle.layout.proofs.find.overflow_word.Tie as tie
+use Rattle.layout.proofs.find.overflow_word.Reads as reads
+use Rattle.layout.proofs.find.overflow_word.Lts as lts
+use Rattle.layout.proofs.find.entries_in.Reads as entries-in-reads
+use Rattle.layout.proofs.find.over_place.Reads as over-place-reads
+use Rattle.layout.proofs.find.over_word.Reads as over-word-reads
+use Rattle.numbers.proofs.place.at.Reads as at-reads
+
+entries-in-requires : tie.Need-entries-in-requires
+entries-in-requires c κs = search needs
+
+returns : tie.Need-returns
+returns c = let a = c .before .before .before .args in over-none (a .table .now) (a .d) (a .c) _ (c .before .entries-in .ensures) (c .if1 .taken)
 
 at-requires : tie.Need-at-requires
 at-requires c κs = search needs
 
-returns : tie.Need-returns
-returns c = let a = c .before .before .before .args in over-many-direct (a .table .now) (a .d) (a .c) _ (c .before .at .ensures) (c .if1 .taken)
-
-returns-2 : tie.Need-returns-2
-returns-2 c = let a = c .before .before .before .before .args in over-many (a .table .now) (a .d) (a .c) _ (c .before .before .at .ensures) (c .before .if1 .left) (c .if2 .taken)
-
 mul-a : tie.Need-mul-a
-mul-a c = search needs
+mul-a c = let s = over-sized (c .before .before .before .before .args .table .now) (c .before .before .before .before .args .d) (c .before .before .before .before .args .c) _ (c .before .before .entries-in .ensures) (c .before .if1 .left) in omega arith
 
 add-a : tie.Need-add-a
-add-a c = search needs
-
-mul-if3 : tie.Need-mul-if3
-mul-if3 c = search needs
-
-add-if3 : tie.Need-add-if3
-add-if3 c = search needs
-
-returns-3 : tie.Need-returns-3
-returns-3 c = let a = c .before .before .before .before .before .args in over-short (a .table .now) (a .d) (a .c) _ (c .before .before .before .at .ensures) (c .before .before .if1 .left) (c .before .if2 .left) (c .if3 .taken)
+add-a c = let s = over-sized (c .before .before .before .before .args .table .now) (c .before .before .before .before .args .d) (c .before .before .before .before .args .c) _ (c .before .before .entries-in .ensures) (c .before .if1 .left) in omega arith
 
 over-place-requires : tie.Need-over-place-requires
-over-place-requires c κs = search needs
+over-place-requires c κs = let s = over-sized (c .before .before .before .before .args .table .now) (c .before .before .before .before .args .d) (c .before .before .before .before .args .c) _ (c .before .before .entries-in .ensures) (c .before .if1 .left) in let n = c .at .ensures in (omega arith, omega arith)
 
 over-word-requires : tie.Need-over-word-requires
-over-word-requires c κs = search needs
+over-word-requires c κs = let s = over-sized (c .before .before .before .before .before .args .table .now) (c .before .before .before .before .before .args .d) (c .before .before .before .before .before .args .c) _ (c .before .before .before .entries-in .ensures) (c .before .before .if1 .left) in let n = c .before .at .ensures in let k = c .over-place .ensures .1 in (omega arith, omega arith)
 
-returns-4 : tie.Need-returns-4
-returns-4 c = let a = c .before .before .before .before .before .before .before .args in over-found (a .table .now) (a .d) (a .c) _ (c .before .before .before .before .before .at .ensures) (c .before .before .before .before .if1 .left) (c .before .before .before .if2 .left) (c .before .before .if3 .left) _ _ (c .before .over-place .ensures .0) (c .over-word .ensures)
+returns-2 : tie.Need-returns-2
+returns-2 c = let a = c .before .before .before .before .before .before .args in over-found (a .table .now) (a .d) (a .c) _ (c .before .before .before .before .entries-in .ensures) (c .before .before .before .if1 .left) _ _ _ (c .before .before .at .ensures) (c .before .over-place .ensures .0) (c .over-word .ensures)
 
 pub overflow-word-spec : {M : Type 1} → statement M
 overflow-word-spec =
     tie.close
     (tie.spec
-    at-requires
+    entries-in-requires
     returns
-    returns-2
+    at-requires
     mul-a
     add-a
-    mul-if3
-    add-if3
-    returns-3
     over-place-requires
     over-word-requires
-    returns-4)
+    returns-2)
