@@ -1,35 +1,30 @@
 -- `pre_allocate`, chunk after chunk in rising order: one that is not dense takes the lowest free page of memory as it then is. Assumes nothing.
 use mathlib.Core.Path.{_≡_, refl, sym, ap, subst, _∙_}
 use mathlib.Core.Logic.{_≢_}
-use mathlib.Core.Bool.{Bool, true, false, cond}
-use Prim.Native.Nat.{ℕ, suc, _+_, _/_, _^_, _≤_, _<_}
+use mathlib.Core.Bool.{Bool, false, cond}
+use Prim.Native.Nat.{ℕ, suc, _+_, _/_, _≤_, _<_}
 use native.Mathlib.Omega.{arith}
 use lib.IntN.{pos}
-use lib.Dec.{ltb}
-use borrow.Author.Tests.{ltb-false, eq-eqb}
-use Rattle.numbers.proofs.Splits as splits
+use borrow.Author.Tests.{eq-eqb}
 use Rattle.layout.specs.Mem.{Mem}
 use Rattle.document.specs.Sizes.{top, lastChunk}
-use Rattle.document.specs.Refusals.{not-laid-out, is-ranked, overflow-full, pages-full}
 use Rattle.layout.specs.Sizes.{head}
 use Rattle.layout.specs.Places.{hasPage, pageOwner}
 use Rattle.layout.specs.Entries.{placeOf}
-use Rattle.layout.specs.Tests.{walked}
 use Rattle.document.specs.State.{dense}
 use Rattle.layout.specs.Meaning.{kinds, kindOf, ranked, stateOf}
 use Rattle.layout.specs.Follows.{Follows}
-use Rattle.layout.specs.SetUp.{Did, did}
 use Rattle.document.specs.declared.sizes.Sizes.{Sizes}
-use Rattle.document.specs.declared.answer.Outcome.the-variants.{Done, Refused}
+use Rattle.document.specs.declared.answer.Outcome.the-variants.{Done}
 use Rattle.layout.specs.declared.place.Place.{Place}
 use Rattle.layout.specs.declared.place.Place.the-variants.{Absent, Sparse, Dense}
 use Rattle.document.specs.Prepare.{denseMap}
 use Rattle.document.specs.Room.{overflows, denses}
-use Rattle.calls.specs.Prepare.{lowestPage, densed, densedTo, overNeeded, pagesNeeded, prepareBy}
+use Rattle.calls.specs.Prepare.{HasRoom, lowestPage, densed, densedTo, prepareBy}
 use Rattle.calls.proofs.FirstFree.{first-free}
-use Rattle.calls.proofs.Needed.{over-needed, pages-needed}
 use Rattle.calls.proofs.Sofar.{Sofar, takes-page, takes-becomes, takes-is, stays}
 use Rattle.calls.proofs.Preparing.{sofar}
+use Rattle.calls.proofs.PreparedDense.{last, room-far, room-over, room-pages, accepted}
 
 -- from memory y to memory z chunk c takes the lowest page that is free in y
 pub record TakesLowest (h : Sizes) (y z : Mem) (c : ℕ) : Type 0 where
@@ -79,76 +74,28 @@ module _ (x : Mem) (mode : ranked x ≡ false) (c n : ℕ) (le : n ≤ c) (far :
 
 -- ---- an accepted call
 
--- the maximum's chunk
-abbrev last : Mem → ℕ → ℕ
-last x i = i / top (head x)
-
--- an open set that has room
-record Accepted (x : Mem) (c : ℕ) (d : Did) : Type 0 where
-  mode : ranked x ≡ false
-  over : overNeeded (head x) (x .table) c ≤ head x .v
-  pages : pagesNeeded (head x) (x .table) c ≤ head x .p
-  after : d .after ≡ densedTo (head x) x (c + 1)
-
-refused-done : (k : ℕ) → Refused k ≡ Done → ⊥
-refused-done k e = let z : _≡_ {A = ℕ} 0 1 = cc in omega arith
-
--- by the four tests
-abbrev by : Mem → ℕ → Bool → Bool → Bool → Bool → Did
-by x c a b u v =
-    cond a
-    (cond b (did (Refused is-ranked) x)
-    (cond u (did (Refused overflow-full) x) (cond v (did (Refused pages-full) x) (did Done (densedTo (head x) x (c + 1))))))
-    (did (Refused not-laid-out) x)
-
-accepted-by : (x : Mem) (c : ℕ) (a b u v : Bool) → ranked x ≡ b → ltb (head x .v) (overNeeded (head x) (x .table) c) ≡ u
-    → ltb (head x .p) (pagesNeeded (head x) (x .table) c) ≡ v → by x c a b u v .answer ≡ Done → Accepted x c (by x c a b u v)
-accepted-by x c false b u v p q r e = absurd (refused-done not-laid-out e)
-accepted-by x c true true u v p q r e = absurd (refused-done is-ranked e)
-accepted-by x c true false true v p q r e = absurd (refused-done overflow-full e)
-accepted-by x c true false false true p q r e = absurd (refused-done pages-full e)
-accepted-by x c true false false false p q r e =
-    record {
-      mode = p;
-      over = ltb-false (head x .v) (overNeeded (head x) (x .table) c) q;
-      pages = ltb-false (head x .p) (pagesNeeded (head x) (x .table) c) r;
-      after = refl;
-    }
-
-accepted : (x : Mem) (i : ℕ) → prepareBy x (pos i) .answer ≡ Done → Accepted x (last x i) (prepareBy x (pos i))
-unfolding prepareBy
-accepted x i =
-    accepted-by x (last x i) (walked x) (ranked x) (ltb (head x .v) (overNeeded (head x) (x .table) (last x i)))
-    (ltb (head x .p) (pagesNeeded (head x) (x .table) (last x i))) refl refl refl
-
-module _ {x : Mem} (w : Follows x) (i : ℕ) (small : i < 2 ^ 63) (done : prepareBy x (pos i) .answer ≡ Done) where
+module _ {x : Mem} (w : Follows x) (i : ℕ) (done : prepareBy x (pos i) .answer ≡ Done) where
   -- what it leaves is memory after the turns of chunks 0 to the maximum's
   pub prepared-memory : prepareBy x (pos i) .after ≡ densedTo (head x) x (i / top (head x) + 1)
   prepared-memory = accepted x i done .after
 
-  far : last x i < lastChunk (head x)
-  far = let s = w .sizes .s-high in splits.chunk-below (head x .s) i (omega arith) small
-
-  over : overflows (head x) (denseMap (stateOf x) (last x i)) ≤ head x .v
-  over = let e = over-needed w (last x i) far in let a = accepted x i done .over in omega arith
-
-  pages : denses (head x) (denseMap (stateOf x) (last x i)) ≤ head x .p
-  pages = let e = pages-needed w (last x i) far in let a = accepted x i done .pages in omega arith
+  abbrev room : HasRoom x (last x i)
+  room = accepted x i done .room
 
   module _ (n : ℕ) (le : n ≤ i / top (head x)) where
-    reached : Sofar x n (densedTo (head x) x n)
-    reached = sofar w (accepted x i done .mode) (last x i) far over pages n (omega arith)
+    reached-here : Sofar x n (densedTo (head x) x n)
+    reached-here = sofar w (room .mode) (last x i) (room-far room) (room-over room) (room-pages room) n (omega arith)
 
     -- the turn of a chunk that is not dense: the lowest free page is taken
     pub lowest-free : kinds (densedTo (head x) x n) n ≢ dense → TakesLowest (head x) (densedTo (head x) x n) (densedTo (head x) x (suc n)) n
     unfolding densedTo
     lowest-free d =
-        subst (λ (h : Sizes). TakesLowest h (densedTo (head x) x n) (densed h (densedTo (head x) x n) n) n) (reached .sizes)
-        (takes-lowest x (accepted x i done .mode) (last x i) n le far (densedTo (head x) x n) reached over pages d)
+        subst (λ (h : Sizes). TakesLowest h (densedTo (head x) x n) (densed h (densedTo (head x) x n) n) n) (reached-here .sizes)
+        (takes-lowest x (room .mode) (last x i) n le (room-far room) (densedTo (head x) x n) reached-here (room-over room) (room-pages room) d)
 
     -- of one that is: nothing changes
     pub dense-stays : kinds (densedTo (head x) x n) n ≡ dense → densedTo (head x) x (suc n) ≡ densedTo (head x) x n
     unfolding densedTo
     dense-stays d =
-        subst (λ (h : Sizes). densed h (densedTo (head x) x n) n ≡ densedTo (head x) x n) (reached .sizes)
-        (stays-dense x (accepted x i done .mode) (last x i) n le far (densedTo (head x) x n) reached over pages d)
+        subst (λ (h : Sizes). densed h (densedTo (head x) x n) n ≡ densedTo (head x) x n) (reached-here .sizes)
+        (stays-dense x (room .mode) (last x i) n le (room-far room) (densedTo (head x) x n) reached-here (room-over room) (room-pages room) d)
