@@ -18,6 +18,8 @@ pub mod Enters
 pub mod Turns
 pub mod Inserting
 pub mod Needed
+pub mod Reached
+pub mod PreparedDense
 pub mod Sofar
 pub mod Preparing
 pub mod PrepareSpares

@@ -1,10 +1,12 @@
 -- What the map needs once chunks 0 to c are dense: the sums that preparation makes from the table. Assumes nothing.
 use mathlib.Core.Path.{_≡_, refl, sym, ap, ap₂, _∙_}
 use mathlib.Core.Bool.{Bool, true, false, cond, not, _&&_}
-use Prim.Native.Nat.{ℕ, zero, suc, _+_, _-_, _*_, _≤_, _<_}
+use mathlib.Core.List.{List}
+use Prim.Native.Nat.{ℕ, zero, suc, _+_, _-_, _*_, _^_, _≤_, _<_}
 use native.Mathlib.Omega.{arith}
 use lib.ListN.{getD}
 use lib.Dec.{leb, ltb}
+use lib.Pow.{pow-mono}
 use mir.Val.{boolByte}
 use borrow.Author.Tests.{leb-true, leb-false, lt-ltb, le-ltb, le-leb, lt-leb, ne-eqb}
 use Rattle.sums.specs.Ids.{Ids, count}
@@ -12,7 +14,7 @@ use Rattle.sums.proofs.Sums.{sum-le}
 use Rattle.sums.proofs.Counts.{count-zero, count-suc, count-ext, count-none, count-split, count-full}
 use Rattle.sums.proofs.Rules.{both}
 use Rattle.layout.specs.Mem.{Mem}
-use Rattle.document.specs.Sizes.{lastChunk}
+use Rattle.document.specs.Sizes.{InRange, lastChunk}
 use Rattle.layout.specs.Sizes.{overAt, head, overCount}
 use Rattle.layout.specs.Places.{decoded}
 use Rattle.layout.specs.Places
@@ -21,12 +23,13 @@ use Rattle.layout.specs.Short.{overPlace}
 use Rattle.document.specs.State.{Kind, dense, isPresent, isSparse, isDense}
 use Rattle.layout.specs.Meaning.{kindOf, kinds, stateOf}
 use Rattle.layout.specs.Follows.{Follows}
+use Rattle.layout.specs.Tests.{Walked}
 use Rattle.document.specs.declared.sizes.Sizes.{Sizes}
 use Rattle.layout.specs.declared.place.Place.{Place}
 use Rattle.layout.specs.declared.place.Place.the-variants.{Absent, Sparse, Dense}
 use Rattle.layout_laws.proofs.Keys.{Cut, sum-beside}
 use Rattle.layout_laws.proofs.Halving.{lower-first}
-use Rattle.layout_laws.proofs.Entries.{laid-ordered, word-of-over}
+use Rattle.layout_laws.proofs.Entries.{walked-ordered, word-of-over}
 use Rattle.layout_laws.proofs.Short.{over-rising}
 use Rattle.layout_laws.proofs.ChunkCounts.{present-word, count-kinds, over-chunks}
 use Rattle.calls.specs.Prepare.{overNeeded, pagesNeeded}
@@ -94,7 +97,7 @@ sides P c low high i = go (leb i c) refl
     go true e = low i (leb-true i c e)
     go false e = high i (leb-false i c e)
 
-module _ {x : Mem} (w : Follows x) (c : ℕ) (far : c < lastChunk (head x)) where
+module _ {x : Mem} (w : Walked x (head x)) (c : ℕ) (far : c < lastChunk (head x)) where
   abbrev map : ℕ → Kind
   map = denseMap (stateOf x) c
 
@@ -137,7 +140,7 @@ module _ {x : Mem} (w : Follows x) (c : ℕ) (far : c < lastChunk (head x)) wher
   unfolding count
   over-below N =
       let k = overPlace (x .table) (16 + 2 * head x .d) (overCount (x .table)) N in
-      let up = over-rising (head x) (x .table) (laid-ordered w) in
+      let up = over-rising (head x) (x .table) (walked-ordered w) in
       let cut : Cut key (overCount (x .table)) k N = lower-first key (overCount (x .table)) N up in
       count-ext over (λ (i : ℕ). by i (beside key val (overCount (x .table)) i)) N (λ i l. over-by i (leb (head x .d) i) refl)
       ∙ sum-beside key val (overCount (x .table)) up (λ (i v : ℕ). boolByte (by i v)) (λ i. ap boolByte (and-false (leb (head x .d) i))) k N cut
@@ -169,7 +172,7 @@ module _ {x : Mem} (w : Follows x) (c : ℕ) (far : c < lastChunk (head x)) wher
   pub pages-needed : pagesNeeded (head x) (x .table) c ≡ denses (head x) map
   unfolding pagesNeeded denses
   pages-needed =
-      let a = count-kinds x (laid-ordered w) past (λ i. and-false (ltb c i)) in
+      let a = count-kinds x (walked-ordered w) past (λ i. and-false (ltb c i)) in
       let s = count-ext (λ (e : ℕ). past (chunkAt (head x) (x .table) e) (kindOf (placeAt (head x) (x .table) e)))
       (λ (e : ℕ). ltb c (chunkAt (head x) (x .table) e) && Places.hasPage (placeAt (head x) (x .table) e)) (entries (head x) (x .table))
       (λ e l. ap (λ (b : Bool). ltb c (chunkAt (head x) (x .table) e) && b) (dense-kind (placeAt (head x) (x .table) e))) in
@@ -187,16 +190,27 @@ module _ {x : Mem} (w : Follows x) (c : ℕ) (far : c < lastChunk (head x)) wher
       dense-kind (Sparse r l) = refl
       dense-kind (Dense p) = refl
 
-  -- ---- rows: none is needed
+-- ---- chunks that there is room for are few
 
-  pub rows-enough : sparses (head x) map ≤ head x .r
-  rows-enough =
-      let a = sparses-fit w in
-      let b = sparses-le (head x) map (kinds x)
-      (sides (λ (i : ℕ). isSparse (map i) ≡ true → isSparse (kinds x i) ≡ true) c
-      (λ i l e. absurd (let q = ap isSparse (dense-low x c i l) in let z : _≡_ {A = ℕ} 0 1 = cc in omega arith))
-      (λ i l e. ap isSparse (sym (dense-high x c i l)) ∙ e)) in
-      omega arith
+pub few-chunks : (h : Sizes) (t : List ℕ) → InRange h → (c : ℕ) → overNeeded h t c ≤ h .v → c < lastChunk h
+unfolding overNeeded
+few-chunks h t z c l =
+    let s = z .s-high in
+    let d = z .d-high in
+    let v = z .v-high in
+    let p : 2 ^ 38 ≤ lastChunk h = pow-mono {i = 38} {j = 63 - h .s} (omega arith) in
+    omega arith
+
+-- ---- rows: none is needed
+
+pub rows-enough : {x : Mem} → Follows x → (c : ℕ) → sparses (head x) (denseMap (stateOf x) c) ≤ head x .r
+rows-enough {x} w c =
+    let a = sparses-fit w in
+    let b = sparses-le (head x) (denseMap (stateOf x) c) (kinds x)
+    (sides (λ (i : ℕ). isSparse (denseMap (stateOf x) c i) ≡ true → isSparse (kinds x i) ≡ true) c
+    (λ i l e. absurd (let q = ap isSparse (dense-low x c i l) in let z : _≡_ {A = ℕ} 0 1 = cc in omega arith))
+    (λ i l e. ap isSparse (sym (dense-high x c i l)) ∙ e)) in
+    omega arith
 
 -- a kind that a dense chunk meets is met by more chunks once more are dense
 pub dense-more : (x : Mem) (c : ℕ) (g : Kind → Bool) → g dense ≡ true → (k : Kind) (i : ℕ) → (c < i → k ≡ kinds x i) → g k ≡ true

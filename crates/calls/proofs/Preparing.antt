@@ -18,7 +18,7 @@ use Rattle.layout.specs.Follows.{Follows}
 use Rattle.layout.specs.Lowest.{TakesRising}
 use Rattle.layout.specs.SetUp.{Did, did}
 use Rattle.document.specs.declared.sizes.Sizes.{Sizes}
-use Rattle.layout_laws.proofs.Walked.{follows-walked}
+use Rattle.layout_laws.proofs.Walked.{laid-walked, follows-walked}
 use Rattle.numbers.proofs.Splits as splits
 use Rattle.document.specs.declared.answer.Truth.the-variants as truth
 use Rattle.document.specs.declared.answer.Outcome.the-variants.{Done, Refused}
@@ -142,25 +142,25 @@ module _ {x : Mem} (w : Follows x) where
         → Says x (pos n) (cond b (did (Refused 8) x) (did Done (densedTo (head x) x (c + 1))))
     eight ov true q =
         let l = ltb-true (head x .p) (pagesNeeded (head x) (x .table) c) q in
-        let i = pages-needed w c far in
-        refuses-prepare w (pos n) 8 (wanted ∙ ap done (verdict-eight (head x) map (truth.Is true) ov (rows-enough w c far) (omega arith)))
+        let i = pages-needed (laid-walked w) c far in
+        refuses-prepare w (pos n) 8 (wanted ∙ ap done (verdict-eight (head x) map (truth.Is true) ov (rows-enough w c) (omega arith)))
     eight ov false q =
         let l = ltb-false (head x .p) (pagesNeeded (head x) (x .table) c) q in
-        let i = pages-needed w c far in
+        let i = pages-needed (laid-walked w) c far in
         let p : denses (head x) map ≤ head x .p = omega arith in
         done-prepare n (densedTo (head x) x (c + 1)) (sofar w mode c far ov p (c + 1) (omega arith)) (sofar-rising w mode c far ov p)
-        (wanted ∙ ap done (verdict-room (head x) map (truth.Is true) ov (rows-enough w c far) p))
+        (wanted ∙ ap done (verdict-room (head x) map (truth.Is true) ov (rows-enough w c) p))
 
     six : (b : Bool) → ltb (head x .v) (overNeeded (head x) (x .table) c) ≡ b
         → Says x (pos n)
         (cond b (did (Refused 6) x) (cond (ltb (head x .p) (pagesNeeded (head x) (x .table) c)) (did (Refused 8) x) (did Done (densedTo (head x) x (c + 1)))))
     six true q =
         let l = ltb-true (head x .v) (overNeeded (head x) (x .table) c) q in
-        let i = over-needed w c far in
+        let i = over-needed (laid-walked w) c far in
         refuses-prepare w (pos n) 6 (wanted ∙ ap done (verdict-six (head x) map (truth.Is true) (omega arith)))
     six false q =
         let l = ltb-false (head x .v) (overNeeded (head x) (x .table) c) q in
-        let i = over-needed w c far in
+        let i = over-needed (laid-walked w) c far in
         eight (omega arith) (ltb (head x .p) (pagesNeeded (head x) (x .table) c)) refl
 
   prepare-id : (z : ℤ) → SFits w64 z → ranked x ≡ false → Says x z (prepareId x z)

@@ -19,6 +19,7 @@ use Rattle.layout.specs.Follows.{Follows}
 use Rattle.document.specs.declared.sizes.Sizes.{Sizes}
 use Rattle.document.specs.declared.answer.Truth.{Truth}
 use Rattle.document.specs.declared.answer.Truth.the-variants.{Refused}
+use Rattle.layout_laws.proofs.Walked.{laid-walked}
 use Rattle.layout_laws.proofs.ChunkCounts.{over-chunks, sparse-rows, dense-pages}
 use Rattle.document.specs.Room.{overflows, sparses, denses, verdict}
 use Rattle.calls.proofs.FirstFree.{taken}
@@ -62,16 +63,16 @@ module _ {x : Mem} (w : Follows x) where
   -- the overflow entries in use
   pub overflows-is : overflows (head x) (kinds x) ≡ overCount (x .table)
   unfolding overflows
-  overflows-is = over-chunks w
+  overflows-is = over-chunks (laid-walked w)
 
   -- the rows and pages that have an owner
   pub sparses-is : sparses (head x) (kinds x) ≡ count (taken (rowOwner (head x) (x .table))) (head x .r)
   unfolding sparses
-  sparses-is = sparse-rows w
+  sparses-is = sparse-rows (laid-walked w)
 
   pub denses-is : denses (head x) (kinds x) ≡ count (taken (pageOwner (head x) (x .table))) (head x .p)
   unfolding denses
-  denses-is = dense-pages w
+  denses-is = dense-pages (laid-walked w)
 
   pub sparses-fit : sparses (head x) (kinds x) ≤ head x .r
   sparses-fit = let e = sparses-is in let l = count-le (taken (rowOwner (head x) (x .table))) (head x .r) in omega arith

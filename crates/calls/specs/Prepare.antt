@@ -1,7 +1,8 @@
 -- `pre_allocate` on any memory: judged by arithmetic, then chunk after chunk made dense.
-use Prim.Native.Nat.{ℕ, zero, suc, _+_, _-_, _*_, _/_}
+use mathlib.Core.Path.{_≡_}
+use Prim.Native.Nat.{ℕ, zero, suc, _+_, _-_, _*_, _/_, _≤_}
 use mathlib.Core.List.{List}
-use mathlib.Core.Bool.{cond, _&&_}
+use mathlib.Core.Bool.{false, cond, _&&_}
 use lib.IntN.{ℤ, pos, negsuc}
 use lib.Dec.{ltb, eqb}
 use Rattle.sums.specs.Ids.{count}
@@ -14,7 +15,8 @@ use Rattle.layout.specs.Places.{hasPage, rowPart, pagePart, pageOwner}
 use Rattle.layout.specs.Entries.{entries, chunkAt, placeAt, placeOf}
 use Rattle.layout.specs.Short.{overPlace}
 use Rattle.layout.specs.Free.{firstFree}
-use Rattle.layout.specs.Tests.{walked}
+use Rattle.layout.specs.Meaning.{ranked}
+use Rattle.layout.specs.Tests.{Walked, walked}
 use Rattle.layout.specs.SetUp.{Did, did}
 use Rattle.document.specs.declared.sizes.Sizes.{Sizes}
 use Rattle.layout.specs.declared.place.Place.{Place}
@@ -32,13 +34,9 @@ intoPage h x c p Absent = paged h x c Absent p (pagePart h (x .pages) p)
 intoPage h x c p (Sparse r l) = paged h x c (Sparse r l) p (withRow (pagePart h (x .pages) p) 0 (rowPart h (x .rows) r) (top h) l)
 intoPage h x c p (Dense q) = x
 
--- where page p is one of the pool's
-abbrev pub densedIn : Sizes → Mem → ℕ → ℕ → Mem
-densedIn h x c p = cond (ltb p (h .p)) (intoPage h x c p (placeOf h (x .table) c)) x
-
 -- chunk c made dense: it takes the lowest free page
 abbrev pub densed : Sizes → Mem → ℕ → Mem
-densed h x c = densedIn h x c (lowestPage h x)
+densed h x c = intoPage h x c (lowestPage h x) (placeOf h (x .table) c)
 
 -- chunks 0 to n - 1 made dense, in rising order
 unfoldable pub densedTo : Sizes → Mem → ℕ → Mem
@@ -56,6 +54,13 @@ overNeeded h t c = overCount t - overPlace t (16 + 2 * h .d) (overCount t) (c + 
 
 unfoldable pub pagesNeeded : Sizes → List ℕ → ℕ → ℕ
 pagesNeeded h t c = count (λ (e : ℕ). ltb c (chunkAt h t e) && hasPage (placeAt h t e)) (entries h t) + (c + 1)
+
+-- what the tests below leave: an open set that passed the walk, with room for chunks 0 to c dense
+pub record HasRoom (x : Mem) (c : ℕ) : Type 0 where
+  pub walks : Walked x (head x)
+  pub mode : ranked x ≡ false
+  pub over : overNeeded (head x) (x .table) c ≤ head x .v
+  pub pages : pagesNeeded (head x) (x .table) c ≤ head x .p
 
 -- 6 before 8; 7 can't arise
 abbrev pub prepareTo : Sizes → Mem → ℕ → Did

@@ -1,14 +1,11 @@
 -- Each test decides its sentence of the rule, and with the walk they decide `Follows`. Assumes nothing.
 use mathlib.Core.Path.{_≡_, refl, sym, _∙_, ap, ap₂, subst}
-use mathlib.Core.Logic.{_≢_}
 use mathlib.Core.List.{List}
-use mathlib.Core.Bool.{Bool, true, false, not, _&&_}
+use mathlib.Core.Bool.{Bool, true, false, _&&_}
 use Prim.Native.Nat.{ℕ, _+_, _-_, _*_, _≤_, _<_}
 use native.Mathlib.Omega.{arith}
 use lib.ListN.{getD}
-use lib.Dec.{eqb}
 use Rattle.sums.specs.Sums.{sumTo}
-use Rattle.sums.specs.Ids.{count}
 use Rattle.sums.specs.Rules.{allTo, Decides}
 use Rattle.sums.proofs.Rules.{all-of, and-of, unless-of, if-of, same-of, leb-of, ltb-of, eqb-of}
 use Rattle.dense.specs.Bits.{bitsTo}
@@ -18,32 +15,17 @@ use Rattle.contracts.specs.Does.{Answers}
 use Rattle.contracts.proofs.Readings.{answers}
 use Rattle.layout.specs.Mem.{Mem}
 use Rattle.document.specs.Sizes.{top}
-use Rattle.layout.specs.Sizes.{wide, blocksOf, overAt, head, overCount, totalAt}
-use Rattle.layout.specs.Places.{hasRow, hasPage, rowPart, pagePart, rowOwner, pageOwner}
+use Rattle.layout.specs.Sizes.{wide, blocksOf, head, totalAt}
+use Rattle.layout.specs.Places.{rowPart, pagePart, rowOwner, pageOwner}
 use Rattle.layout.specs.Entries.{entries, prefixAt, placeAt}
 use Rattle.layout.specs.Follows.{AllZero, Listed, RowListed, membersAt, kept, Laid, Follows}
-use Rattle.layout.specs.Tests.{Walked, walked}
-use Rattle.layout.proofs.Tests.{always, walked-of}
+use Rattle.layout.specs.Tests.{rankedAt, Walked, walked}
+use Rattle.layout.proofs.Tests.{always, zeros-of, walked-of}
+use Rattle.layout_laws.proofs.Walked.{laid-walked}
 use Rattle.document.specs.declared.sizes.Sizes.{Sizes}
 use Rattle.layout.specs.declared.place.Place.{Place}
 use Rattle.layout.specs.declared.place.Place.the-variants.{Absent, Sparse, Dense}
-use Rattle.fullcheck.specs.Check.{WalkShown, zeroAt, zeros, overSet, offsetIs, listIs, listAt, rowIs, freeRowIs, freePageIs, kindAt, countsAre, sizeOfEntry, rankedAt, prefixIs, totalIs, blockIs, pageBlocks, tableRest, rowsAre, ranksAre, restIs, checked}
-
--- no to P is yes to its denial
-not-sound : (a : Bool) {P : Type 0} → Decides a P → not a ≡ true → P → ⊥
-not-sound true d h p = let z : _≡_ {A = ℕ} 0 1 = cc in omega arith
-not-sound false d h p = let e : false ≡ true = d .whole p in let z : _≡_ {A = ℕ} 0 1 = cc in omega arith
-
-not-whole : (a : Bool) {P : Type 0} → Decides a P → (P → ⊥) → not a ≡ true
-not-whole true d n = absurd (n (d .sound refl))
-not-whole false d n = refl
-
-not-of : {a : Bool} {P : Type 0} → Decides a P → Decides (not a) (P → ⊥)
-not-of {a} d = record { sound = not-sound a d; whole = not-whole a d }
-
-zeros-of : (xs : List ℕ) (a n : ℕ) → Decides (zeros xs a n) (AllZero xs a n)
-unfolding zeros zeroAt
-zeros-of xs a n = all-of (zeroAt xs a) n (λ i l. eqb-of (getD xs (a + i) 0) 0)
+use Rattle.fullcheck.specs.Check.{WalkShown, offsetIs, listIs, listAt, rowIs, freeRowIs, freePageIs, sizeOfEntry, prefixIs, totalIs, blockIs, pageBlocks, rowsAre, ranksAre, restIs, checked}
 
 -- ---- rows
 
@@ -71,10 +53,6 @@ row-of h rows (Sparse r l) = list-of h (rowPart h rows r) l
 row-of h rows (Dense p) = always
 
 module _ (h : Sizes) (x : Mem) where
-  words-of : Decides (allTo (overSet (x .table) (16 + 2 * h .d)) (overCount (x .table))) ((j : ℕ) → j < overCount (x .table) → getD (x .table) (overAt h j + 1) 0 ≢ 0)
-  unfolding overSet
-  words-of = all-of (overSet (x .table) (16 + 2 * h .d)) (overCount (x .table)) (λ j l. not-of (eqb-of (getD (x .table) (overAt h j + 1) 0) 0))
-
   lists-of : Decides (allTo (rowIs h (x .rows) (x .table)) (entries h (x .table))) ((e : ℕ) → e < entries h (x .table) → RowListed h (x .rows) (placeAt h (x .table) e))
   unfolding rowIs
   lists-of = all-of (rowIs h (x .rows) (x .table)) (entries h (x .table)) (λ e l. row-of h (x .rows) (placeAt h (x .table) e))
@@ -86,15 +64,6 @@ module _ (h : Sizes) (x : Mem) where
   free-pages-of : Decides (allTo (freePageIs h (x .pages) (x .table)) (h .p)) ((p : ℕ) → p < h .p → pageOwner h (x .table) p ≡ 0 → AllZero (x .pages) (p * wide h) (wide h))
   unfolding freePageIs
   free-pages-of = all-of (freePageIs h (x .pages) (x .table)) (h .p) (λ p l. if-of (eqb-of (pageOwner h (x .table) p) 0) (zeros-of (x .pages) (p * wide h) (wide h)))
-
-  counts-of : Decides (countsAre h (x .table))
-      ((count (λ (r : ℕ). not (eqb (rowOwner h (x .table) r) 0)) (h .r) ≡ count (λ (e : ℕ). hasRow (placeAt h (x .table) e)) (entries h (x .table)))
-      × (count (λ (p : ℕ). not (eqb (pageOwner h (x .table) p) 0)) (h .p) ≡ count (λ (e : ℕ). hasPage (placeAt h (x .table) e)) (entries h (x .table))))
-  unfolding countsAre kindAt
-  counts-of =
-      and-of
-      (eqb-of (count (λ (r : ℕ). not (eqb (rowOwner h (x .table) r) 0)) (h .r)) (count (kindAt h (x .table) false) (entries h (x .table))))
-      (eqb-of (count (λ (p : ℕ). not (eqb (pageOwner h (x .table) p) 0)) (h .p)) (count (kindAt h (x .table) true) (entries h (x .table))))
 
   ranks-of : Decides (ranksAre h (x .pages) (x .table))
       (((e : ℕ) → e < entries h (x .table) → prefixAt h (x .table) e ≡ kept x (sumTo (membersAt h x) e))
@@ -115,35 +84,30 @@ module _ (h : Sizes) (x : Mem) where
 
   -- after the walk the rest decides the whole rule
   pub laid-of : Walked x h → Decides (restIs h x) (Laid x h)
-  unfolding restIs tableRest rowsAre
+  unfolding restIs rowsAre
   laid-of w =
       same-of
-      (and-of (and-of (and-of (and-of
-      (and-of (and-of (and-of (zeros-of (x .table) 9 7) words-of) (zeros-of (x .table) (overAt h (overCount (x .table))) (3 * (h .v - overCount (x .table))))) counts-of)
-      (and-of lists-of free-rows-of)) free-pages-of) ranks-of) blocks-of)
+      (and-of (and-of (and-of (and-of lists-of free-rows-of) free-pages-of) ranks-of) blocks-of)
       (λ q. record {
         sizes = w .sizes;
         room = w .room;
         mode = w .mode;
-        unused = q .0 .0 .0 .0 .0 .0 .0;
+        unused = w .unused;
         over-fits = w .over-fits;
         keys = w .keys;
-        words = q .0 .0 .0 .0 .0 .0 .1;
-        spare = q .0 .0 .0 .0 .0 .1;
+        words = w .words;
+        spare = w .spare;
         places = w .places;
-        lists = q .0 .0 .0 .1 .0;
-        free-rows = q .0 .0 .0 .1 .1;
+        lists = q .0 .0 .0 .0;
+        free-rows = q .0 .0 .0 .1;
         free-pages = q .0 .0 .1;
-        rows-used = q .0 .0 .0 .0 .1 .0;
-        pages-used = q .0 .0 .0 .0 .1 .1;
+        rows-used = w .rows-used;
+        pages-used = w .pages-used;
         prefixes = q .0 .1 .0;
         total = q .0 .1 .1;
         blocks = λ p b l m. q .1 p l b m;
       })
-      (λ f. (((((((f .unused, f .words), f .spare), (f .rows-used, f .pages-used)), (f .lists, f .free-rows)), f .free-pages), (f .prefixes, f .total)), λ p l b m. f .blocks p b l m))
-
-  pub walk-of : Laid x h → Walked x h
-  walk-of f = record { sizes = f .sizes; room = f .room; mode = f .mode; over-fits = f .over-fits; keys = f .keys; places = f .places }
+      (λ f. ((((f .lists, f .free-rows), f .free-pages), (f .prefixes, f .total)), λ p l b m. f .blocks p b l m))
 
 -- ---- the rest, by slice
 
@@ -151,9 +115,9 @@ module _ (x : Mem) (h : Sizes) where
   pub sound-of : Walked x h → WalkShown h (x .table)
   sound-of w = record { sizes = w .sizes; in-table = w .room .in-table; over-fits = w .over-fits; places = w .places }
 
-  pub rest-passes : (a b d e f : Bool) → a ≡ tableRest h (x .table) → b ≡ rowsAre h (x .rows) (x .table) → d ≡ allTo (freePageIs h (x .pages) (x .table)) (h .p) → e ≡ ranksAre h (x .pages) (x .table) → f ≡ allTo (pageBlocks h (x .pages) (x .blocks) (rankedAt (x .table))) (h .p) → (a && b && d && e && f) ≡ restIs h x
+  pub rest-passes : (b d e f : Bool) → b ≡ rowsAre h (x .rows) (x .table) → d ≡ allTo (freePageIs h (x .pages) (x .table)) (h .p) → e ≡ ranksAre h (x .pages) (x .table) → f ≡ allTo (pageBlocks h (x .pages) (x .blocks) (rankedAt (x .table))) (h .p) → (b && d && e && f) ≡ restIs h x
   unfolding restIs
-  rest-passes a b d e f p q r s t = ap₂ _&&_ (ap₂ _&&_ (ap₂ _&&_ (ap₂ _&&_ p q) r) s) t
+  rest-passes b d e f q r s t = ap₂ _&&_ (ap₂ _&&_ (ap₂ _&&_ q r) s) t
 
 -- ---- the whole check
 
@@ -170,7 +134,7 @@ then-of {a} {b} d e f = record {
 
 pub follows-of : (x : Mem) → Decides (checked x) (Follows x)
 unfolding checked
-follows-of x = then-of (walked-of x) (laid-of (head x) x) (walk-of (head x) x)
+follows-of x = then-of (walked-of x) (laid-of (head x) x) laid-walked
 
 decided : (x : Mem) (b : Bool) → b ≡ checked x → Decides b (Follows x)
 decided x b e = record { sound = λ h. follows-of x .sound (sym e ∙ h); whole = λ f. e ∙ follows-of x .whole f }

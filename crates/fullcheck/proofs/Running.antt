@@ -17,11 +17,12 @@ use Rattle.document.specs.Sizes.{InRange, top}
 use Rattle.layout.specs.Sizes.{wide, blocksOf, totalAt}
 use Rattle.layout.specs.Places.{pagePart}
 use Rattle.layout.specs.Entries.{entries, chunkAt, prefixAt, placeAt}
-use Rattle.layout.specs.Follows.{Owned, sizeOf}
+use Rattle.layout.specs.Follows.{sizeOf}
+use Rattle.layout.specs.Tests.{rankedAt}
+use Rattle.layout_laws.proofs.Walked.{size-small}
 use Rattle.document.specs.declared.sizes.Sizes.{Sizes}
 use Rattle.layout.specs.declared.place.Place.{Place}
-use Rattle.layout.specs.declared.place.Place.the-variants.{Absent, Sparse, Dense}
-use Rattle.fullcheck.specs.Check.{WalkShown, sizeOfEntry, rankedAt, keptIf, prefixIs, totalIs, ranksAre, blockIs, pageBlocks}
+use Rattle.fullcheck.specs.Check.{WalkShown, sizeOfEntry, keptIf, prefixIs, totalIs, ranksAre, blockIs, pageBlocks}
 use Rattle.fullcheck.proofs.Ways.{part-length, part-is}
 
 -- ---- what is kept of a count
@@ -51,11 +52,6 @@ page-counted h pages a w p i e f l d =
     let n : 64 * length (take (a + w - a) (drop a pages)) ≡ top h = omega (arith, part-length pages a w l, powers (h .s) (i .s-low) (i .s-high)) in
     d ∙ ap₂ bitsTo (part-is pages a w (p * wide h) (wide h) e f) n
 
-size-small : (h : Sizes) (pages t : List ℕ) (c : ℕ) (q : Place) → InRange h → Owned h t c q → sizeOf h pages q ≤ 33554432
-size-small h pages t c Absent i o = omega arith
-size-small h pages t c (Sparse r l) i o = omega (arith, o .short, i .m-high)
-size-small h pages t c (Dense p) i o = omega (arith, bits-le (pagePart h pages p) (top h), powers (h .s) (i .s-low) (i .s-high))
-
 module _ (h : Sizes) (pages t : List ℕ) (r : Bool) (e : ℕ) where
   -- an entry's place q, found to be p
   pub size-passes : {q : Place} {k : ℕ} → q ≡ placeAt h t e → (p : Place) → q ≡ p → k ≡ sizeOf h pages p → k ≡ sizeOfEntry h pages t e
@@ -64,7 +60,7 @@ module _ (h : Sizes) (pages t : List ℕ) (r : Bool) (e : ℕ) where
 
   pub size-le : WalkShown h t → e < entries h t → keptIf r (sizeOfEntry h pages t e) ≤ 33554432
   unfolding sizeOfEntry
-  size-le o l = kept-le r (sizeOf h pages (placeAt h t e)) 33554432 (size-small h pages t (chunkAt h t e) (placeAt h t e) (o .sizes) (o .places e l))
+  size-le o l = kept-le r (sizeOf h pages (placeAt h t e)) 33554432 (size-small h pages t (o .sizes) (chunkAt h t e) (placeAt h t e) (o .places e l))
 
   pub size-more : (s k : ℕ) → s ≡ keptIf r (sumTo (sizeOfEntry h pages t) e) → k ≡ keptIf r (sizeOfEntry h pages t e) → s + k ≡ keptIf r (sumTo (sizeOfEntry h pages t) (e + 1))
   size-more s k p q = ap₂ _+_ p q ∙ (kept-add r (sumTo (sizeOfEntry h pages t) e) (sizeOfEntry h pages t e) ∙ ap (keptIf r) (sym (sum-next (sizeOfEntry h pages t) e)))

@@ -1,7 +1,7 @@
 -- What each way through a test of one place answers. Assumes nothing.
 use mathlib.Core.Path.{_≡_, refl, sym, _∙_, ap, ap₂, subst}
 use mathlib.Core.List.{List}
-use mathlib.Core.Bool.{Bool, true, false, not, _&&_, _||_}
+use mathlib.Core.Bool.{Bool, true, not, _&&_, _||_}
 use Prim.Native.Nat.{ℕ, suc, _+_, _-_, _*_, _≤_, _<_}
 use native.Mathlib.Nat.{mul-le-mul-right, suc-mul}
 use native.Mathlib.Omega.{arith}
@@ -9,16 +9,14 @@ use lib.ListN.{length, getD, take, drop, length-take, length-drop}
 use lib.Dec.{leb, ltb, eqb}
 use borrow.Author.Tests.{eq-eqb, ne-eqb}
 use Rattle.sums.specs.Rules.{allTo}
-use Rattle.sums.specs.Ids.{count}
 use Rattle.document.specs.Sizes.{top}
-use Rattle.layout.specs.Sizes.{overCount, overAt}
-use Rattle.layout.specs.Places.{hasRow, hasPage, rowPart, rowOwner, pageOwner}
+use Rattle.layout.specs.Places.{rowPart}
 use Rattle.layout.specs.Entries.{entries, chunkAt, placeAt}
 use Rattle.layout.specs.Follows.{Owned}
+use Rattle.layout.specs.Tests.{zeros}
 use Rattle.document.specs.declared.sizes.Sizes.{Sizes}
 use Rattle.layout.specs.declared.place.Place.{Place}
-use Rattle.layout.specs.declared.place.Place.the-variants.{Absent, Sparse, Dense}
-use Rattle.fullcheck.specs.Check.{WalkShown, zeros, offsetIs, listIs, listAt, rowIs, isKind, kindAt, countsAre, freeRowIs, rowsAre, overSet, tableRest}
+use Rattle.fullcheck.specs.Check.{WalkShown, offsetIs, listIs, listAt, rowIs, freeRowIs, rowsAre}
 
 -- ---- parts of a pool
 
@@ -56,10 +54,6 @@ module _ (h : Sizes) (t : List ℕ) (e : ℕ) {q : Place} (s : q ≡ placeAt h t
   pub place-owned : WalkShown h t → e < entries h t → (k : Place) → q ≡ k → Owned h t (chunkAt h t e) k
   place-owned o l k f = subst (Owned h t (chunkAt h t e)) (sym s ∙ f) (o .places e l)
 
-  pub kind-passes : (dense : Bool) {b : Bool} → b ≡ isKind dense q → b ≡ kindAt h t dense e
-  unfolding kindAt
-  kind-passes dense d = d ∙ ap (isKind dense) s
-
 pub rows-pass : (h : Sizes) (rows t : List ℕ) (a b : Bool) → a ≡ allTo (rowIs h rows t) (entries h t) → b ≡ allTo (freeRowIs h rows t) (h .r) → (a && b) ≡ rowsAre h rows t
 unfolding rowsAre
 rows-pass h rows t a b p q = ap₂ _&&_ p q
@@ -71,29 +65,3 @@ free-some n o z e d = ap (λ (b : Bool). not b || z) (sym (ap (λ (k : ℕ). eqb
 
 pub free-none : (n o : ℕ) (z : Bool) → n ≡ o → n ≡ 0 → z ≡ (not (eqb o 0) || z)
 free-none n o z e d = ap (λ (b : Bool). not b || z) (sym (ap (λ (k : ℕ). eqb k 0) (sym e) ∙ eq-eqb n 0 d))
-
--- ---- counts
-
-module _ {q : Place} where
-  pub kind-absent : (dense : Bool) → q ≡ Absent → false ≡ isKind dense q
-  kind-absent true e = ap hasPage (sym e)
-  kind-absent false e = ap hasRow (sym e)
-
-  pub kind-sparse : (dense : Bool) {r l : ℕ} → q ≡ Sparse r l → not dense ≡ isKind dense q
-  kind-sparse true e = ap hasPage (sym e)
-  kind-sparse false e = ap hasRow (sym e)
-
-  pub kind-dense : (dense : Bool) {p : ℕ} → q ≡ Dense p → dense ≡ isKind dense q
-  kind-dense true e = ap hasPage (sym e)
-  kind-dense false e = ap hasRow (sym e)
-
-pub counts-pass : (h : Sizes) (t : List ℕ) (a b d e : ℕ) → a ≡ count (λ (r : ℕ). not (eqb (rowOwner h t r) 0)) (h .r) → b ≡ count (kindAt h t false) (entries h t) → d ≡ count (λ (p : ℕ). not (eqb (pageOwner h t p) 0)) (h .p) → e ≡ count (kindAt h t true) (entries h t) → (eqb a b && eqb d e) ≡ countsAre h t
-unfolding countsAre
-counts-pass h t a b d e p q r s = rw (p, q, r, s)
-
--- ---- the table
-
--- n overflow entries were read to be in use, and i and k say where the spare ones lie
-pub table-passes : (h : Sizes) (t : List ℕ) (n i k : ℕ) (a b d e : Bool) → n ≡ overCount t → i ≡ overAt h n → k ≡ 3 * (h .v - n) → a ≡ zeros t 9 7 → b ≡ allTo (overSet t (16 + 2 * h .d)) (overCount t) → d ≡ zeros t i k → e ≡ countsAre h t → (a && b && d && e) ≡ tableRest h t
-unfolding tableRest
-table-passes h t n i k a b d e m f g p q r s = ap₂ _&&_ (ap₂ _&&_ (ap₂ _&&_ p q) (r ∙ (ap₂ (zeros t) f g ∙ ap (λ (j : ℕ). zeros t (overAt h j) (3 * (h .v - j))) m))) s

@@ -1,20 +1,19 @@
--- The layout's rules past the walk over the table, each as a test of one place over its range, in the order of docs/LAYOUT.md.
+-- The layout's rules past the walk over the table (10, 11, 12, 14, 15, 16), each as a test of one place over its range, in the order of docs/LAYOUT.md.
 use Prim.Native.Nat.{ℕ, _+_, _*_, _-_, _≤_, _<_}
 use mathlib.Core.List.{List}
-use mathlib.Core.Bool.{Bool, true, false, cond, not, _&&_, _||_}
+use mathlib.Core.Bool.{Bool, true, cond, not, _&&_, _||_}
 use lib.ListN.{length, getD}
 use lib.Dec.{leb, ltb, eqb}
 use Rattle.sums.specs.Sums.{sumTo}
-use Rattle.sums.specs.Ids.{count}
 use Rattle.sums.specs.Rules.{allTo}
 use Rattle.dense.specs.Bits.{bitsTo}
 use Rattle.layout.specs.Mem.{Mem}
 use Rattle.document.specs.Sizes.{InRange, top}
-use Rattle.layout.specs.Sizes.{wide, blocksOf, directAt, overAt, tableSize, head, modeAt, overCount, totalAt}
-use Rattle.layout.specs.Places.{hasRow, hasPage, rowPart, pagePart, rowOwner, pageOwner}
+use Rattle.layout.specs.Sizes.{wide, blocksOf, tableSize, head, overCount, totalAt}
+use Rattle.layout.specs.Places.{rowPart, pagePart, rowOwner, pageOwner}
 use Rattle.layout.specs.Entries.{entries, chunkAt, prefixAt, placeAt}
 use Rattle.layout.specs.Follows.{Owned, sizeOf}
-use Rattle.layout.specs.Tests.{walked}
+use Rattle.layout.specs.Tests.{zeros, rankedAt, walked}
 use Rattle.document.specs.declared.sizes.Sizes.{Sizes}
 use Rattle.layout.specs.declared.place.Place.{Place}
 use Rattle.layout.specs.declared.place.Place.the-variants.{Absent, Sparse, Dense}
@@ -25,17 +24,6 @@ pub record WalkShown (h : Sizes) (t : List ℕ) : Type 0 where
   pub in-table : tableSize h ≤ length t
   pub over-fits : overCount t ≤ h .v
   pub places : (e : ℕ) → e < entries h t → Owned h t (chunkAt h t e) (placeAt h t e)
-
--- the n elements from a are 0 (4, 8, and of rows and pages 10, 11, 12)
-unfoldable pub zeroAt : List ℕ → ℕ → ℕ → Bool
-zeroAt xs a i = eqb (getD xs (a + i) 0) 0
-
-unfoldable pub zeros : List ℕ → ℕ → ℕ → Bool
-zeros xs a n = allTo (zeroAt xs a) n
-
--- 7: the word of entry j of the overflow entries, which begin at a, is not 0
-unfoldable pub overSet : List ℕ → ℕ → ℕ → Bool
-overSet t a j = not (eqb (getD t (a + 3 * j + 1) 0) 0)
 
 -- 10: the i-th of a row's l offsets is below u, and below the next
 unfoldable pub offsetIs : List ℕ → ℕ → ℕ → ℕ → Bool
@@ -59,27 +47,11 @@ freeRowIs h rows t r = not (eqb (rowOwner h t r) 0) || zeros rows (r * h .m) (h 
 unfoldable pub freePageIs : Sizes → List ℕ → List ℕ → ℕ → Bool
 freePageIs h pages t p = not (eqb (pageOwner h t p) 0) || zeros pages (p * wide h) (wide h)
 
--- 13: owners that are not 0; entries that are sparse, or dense
-abbrev pub isKind : Bool → Place → Bool
-isKind true q = hasPage q
-isKind false q = hasRow q
-
-unfoldable pub kindAt : Sizes → List ℕ → Bool → ℕ → Bool
-kindAt h t dense e = isKind dense (placeAt h t e)
-
-unfoldable pub countsAre : Sizes → List ℕ → Bool
-countsAre h t =
-    eqb (count (λ (r : ℕ). not (eqb (rowOwner h t r) 0)) (h .r)) (count (kindAt h t false) (entries h t))
-    && eqb (count (λ (p : ℕ). not (eqb (pageOwner h t p) 0)) (h .p)) (count (kindAt h t true) (entries h t))
-
 -- members of entry e
 unfoldable pub sizeOfEntry : Sizes → List ℕ → List ℕ → ℕ → ℕ
 sizeOfEntry h pages t e = sizeOf h pages (placeAt h t e)
 
 -- a count that only a ranked set keeps
-abbrev pub rankedAt : List ℕ → Bool
-rankedAt t = eqb (modeAt t) 1
-
 abbrev pub keptIf : Bool → ℕ → ℕ
 keptIf ranked n = cond ranked n 0
 
@@ -98,12 +70,6 @@ unfoldable pub pageBlocks : Sizes → List ℕ → List ℕ → Bool → ℕ →
 pageBlocks h pages blocks ranked p = allTo (blockIs (pagePart h pages p) blocks ranked (p * blocksOf h)) (blocksOf h)
 
 -- what is left of the rule, by slice
-unfoldable pub tableRest : Sizes → List ℕ → Bool
-tableRest h t =
-    zeros t 9 7 && allTo (overSet t (directAt (h .d))) (overCount t)
-    && zeros t (overAt h (overCount t)) (3 * (h .v - overCount t))
-    && countsAre h t
-
 unfoldable pub rowsAre : Sizes → List ℕ → List ℕ → Bool
 rowsAre h rows t = allTo (rowIs h rows t) (entries h t) && allTo (freeRowIs h rows t) (h .r)
 
@@ -112,7 +78,7 @@ ranksAre h pages t = allTo (prefixIs h pages t) (entries h t) && totalIs h pages
 
 unfoldable pub restIs : Sizes → Mem → Bool
 restIs h x =
-    tableRest h (x .table) && rowsAre h (x .rows) (x .table)
+    rowsAre h (x .rows) (x .table)
     && allTo (freePageIs h (x .pages) (x .table)) (h .p)
     && ranksAre h (x .pages) (x .table)
     && allTo (pageBlocks h (x .pages) (x .blocks) (rankedAt (x .table))) (h .p)

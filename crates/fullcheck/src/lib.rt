@@ -3,8 +3,6 @@ mod blocks;
 mod counts;
 mod pages;
 mod rows;
-mod table;
-mod zeros;
 
 ghost use mathlib.Core.Path.{_≡_};
 ghost use Rattle.layout.specs.Mem.{memOf};
@@ -22,8 +20,7 @@ fn rest_is(pages: &[u64], rows: &[u32], blocks: &[u32], table: &[u64], h: Sizes)
     requires { ⌜ Walked (memOf pages rows blocks table) h ⌝ }
     ensures { λ b. ⌜ b ≡ restIs h (memOf (pages .entry) (rows .entry) (blocks .entry) (table .entry)) ⌝ }
 {
-    table::table_rest(table, h)
-        & rows::rows_are(rows, table, h)
+    rows::rows_are(rows, table, h)
         & pages::free_pages(pages, table, h)
         & counts::ranks_are(pages, table, h)
         & blocks::blocks_are(pages, blocks, table, h)

@@ -6,10 +6,10 @@ ghost use Rattle.sums.specs.Rules.{allTo};
 ghost use Rattle.document.specs.Sizes.{InRange};
 ghost use Rattle.layout.specs.Sizes.{wide};
 ghost use Rattle.fullcheck.specs.Check.{freePageIs};
-use crate::zeros;
 use document::sizes::Sizes;
 use layout::entry;
 use layout::head;
+use layout::zeros;
 use numbers::power;
 
 // A page without an owner holds zeros.

@@ -1,19 +1,20 @@
 -- Each test of the sizes, the lengths and the table decides its rule, and the walk all of them. Assumes nothing.
 use mathlib.Core.Path.{_≡_, refl, sym}
+use mathlib.Core.Logic.{_≢_}
 use mathlib.Core.List.{List}
 use mathlib.Core.Bool.{Bool, true, false}
-use Prim.Native.Nat.{ℕ, _+_, _*_, _≤_, _<_}
+use Prim.Native.Nat.{ℕ, _+_, _*_, _-_, _^_, _≤_, _<_}
 use native.Mathlib.Omega.{arith}
 use lib.ListN.{length, getD}
 use Rattle.sums.specs.Rules.{allTo, Decides}
-use Rattle.sums.proofs.Rules.{all-of, and-of, unless-of, same-of, leb-of, ltb-of, eqb-of}
+use Rattle.sums.proofs.Rules.{all-of, and-of, unless-of, not-of, if-of, bool-of, same-of, leb-of, ltb-of, eqb-of}
 use Rattle.layout.specs.Mem.{Mem}
 use Rattle.document.specs.Sizes.{InRange, lastChunk}
-use Rattle.layout.specs.Sizes.{Roomy, RoomIn, wide, blocksOf, overAt, tableSize, head, modeAt, overCount}
+use Rattle.layout.specs.Sizes.{Roomy, RoomIn, wide, blocksOf, overAt, tableSize, head, modeAt, overCount, totalAt}
 use Rattle.layout.specs.Places.{rowOwner, pageOwner}
-use Rattle.layout.specs.Entries.{entries, chunkAt, placeAt}
-use Rattle.layout.specs.Follows.{Key, Owned}
-use Rattle.layout.specs.Tests.{inRange, roomy, roomIn, keyIs, ownedIs, placeIs, Walked, headIs, tableIs, walked}
+use Rattle.layout.specs.Entries.{entries, chunkAt, prefixAt, placeAt}
+use Rattle.layout.specs.Follows.{AllZero, Key, Owned}
+use Rattle.layout.specs.Tests.{inRange, roomy, roomIn, zeroAt, zeros, keyIs, wordIs, ownedIs, placeIs, rowsOwned, pagesOwned, sparseIn, denseIn, ownersAre, rankedAt, prefixAfter, prefixRises, totalFits, Walked, headIs, overIs, entriesAre, tableIs, walked}
 use Rattle.document.specs.declared.sizes.Sizes.{Sizes}
 use Rattle.layout.specs.declared.place.Place.{Place}
 use Rattle.layout.specs.declared.place.Place.the-variants.{Absent, Sparse, Dense}
@@ -47,6 +48,12 @@ roomy-of h pages rows blocks table =
 
 pub room-of : (h : Sizes) (x : Mem) → Decides (roomIn h x) (RoomIn h x)
 room-of h x = roomy-of h (length (x .pages)) (length (x .rows)) (length (x .blocks)) (length (x .table))
+
+-- ---- zeros
+
+pub zeros-of : (xs : List ℕ) (a n : ℕ) → Decides (zeros xs a n) (AllZero xs a n)
+unfolding zeros zeroAt
+zeros-of xs a n = all-of (zeroAt xs a) n (λ i l. eqb-of (getD xs (a + i) 0) 0)
 
 -- ---- overflow ids, words and owners
 
@@ -95,15 +102,52 @@ module _ (h : Sizes) (t : List ℕ) where
   pub keys-of : Decides (allTo (keyIs h t) (overCount t)) ((j : ℕ) → j < overCount t → Key h t j)
   keys-of = all-of (keyIs h t) (overCount t) (λ j l. key-of h t j)
 
+  words-of : Decides (allTo (wordIs h t) (overCount t)) ((j : ℕ) → j < overCount t → getD t (overAt h j + 1) 0 ≢ 0)
+  unfolding wordIs
+  words-of = all-of (wordIs h t) (overCount t) (λ j l. not-of (eqb-of (getD t (overAt h j + 1) 0) 0))
+
   pub places-of : Decides (allTo (placeIs h t) (entries h t)) ((e : ℕ) → e < entries h t → Owned h t (chunkAt h t e) (placeAt h t e))
   unfolding placeIs
   places-of = all-of (placeIs h t) (entries h t) (λ e l. owned-of h t (chunkAt h t e) (placeAt h t e))
 
+  owners-of : Decides (ownersAre h t) ((rowsOwned h t ≡ sparseIn h t (entries h t)) × (pagesOwned h t ≡ denseIn h t (entries h t)))
+  unfolding ownersAre
+  owners-of = and-of (eqb-of (rowsOwned h t) (sparseIn h t (entries h t))) (eqb-of (pagesOwned h t) (denseIn h t (entries h t)))
+
+  rising-of : Decides (allTo (prefixRises h t) (entries h t)) ((e : ℕ) → e < entries h t → rankedAt t ≡ true → prefixAt h t e ≤ prefixAfter h t e)
+  unfolding prefixRises
+  rising-of = all-of (prefixRises h t) (entries h t) (λ e l. if-of (bool-of (rankedAt t)) (leb-of (prefixAt h t e) (prefixAfter h t e)))
+
+  total-of : Decides (totalFits t) (rankedAt t ≡ true → totalAt t < 2 ^ 63)
+  unfolding totalFits
+  total-of = if-of (bool-of (rankedAt t)) (ltb-of (totalAt t) (2 ^ 63))
+
 pub walked-of : (x : Mem) → Decides (walked x) (Walked x (head x))
-unfolding walked tableIs
+unfolding walked tableIs overIs entriesAre
 walked-of x =
     let h = head x in
+    let t = x .table in
     same-of
-    (and-of (head-of h x) (and-of (keys-of h (x .table)) (places-of h (x .table))))
-    (λ q. record { sizes = q .0 .sizes; room = q .0 .room; mode = q .0 .mode; over-fits = q .0 .over-fits; keys = q .1 .0; places = q .1 .1 })
-    (λ w. (record { sizes = w .sizes; room = w .room; mode = w .mode; over-fits = w .over-fits }, (w .keys, w .places)))
+    (and-of (head-of h x)
+    (and-of (and-of (and-of (zeros-of t 9 7)
+    (and-of (and-of (keys-of h t) (words-of h t)) (zeros-of t (overAt h (overCount t)) (3 * (h .v - overCount t)))))
+    (and-of (and-of (places-of h t) (owners-of h t)) (rising-of h t))) (total-of h t)))
+    (λ q. record {
+      sizes = q .0 .sizes;
+      room = q .0 .room;
+      mode = q .0 .mode;
+      unused = q .1 .0 .0 .0;
+      over-fits = q .0 .over-fits;
+      keys = q .1 .0 .0 .1 .0 .0;
+      words = q .1 .0 .0 .1 .0 .1;
+      spare = q .1 .0 .0 .1 .1;
+      places = q .1 .0 .1 .0 .0;
+      rows-used = q .1 .0 .1 .0 .1 .0;
+      pages-used = q .1 .0 .1 .0 .1 .1;
+      rising = λ r e l. q .1 .0 .1 .1 e l r;
+      total = q .1 .1;
+    })
+    (λ w. (
+      record { sizes = w .sizes; room = w .room; mode = w .mode; over-fits = w .over-fits },
+      (((w .unused, ((w .keys, w .words), w .spare)), ((w .places, (w .rows-used, w .pages-used)), λ e l r. w .rising r e l)), w .total),
+    ))

@@ -8,3 +8,4 @@ pub mod seat;
 pub mod setup;
 pub mod walk;
 pub mod write;
+pub mod zeros;

@@ -1,7 +1,7 @@
 // Where a chunk's members are: nowhere, in the first of a row's offsets (row, length), or in a page.
 ghost use mathlib.Core.Path.{_≡_};
 ghost use Prim.Native.Nat.{_≤_};
-ghost use Rattle.layout.specs.Places.{decoded, encoded};
+ghost use Rattle.layout.specs.Places.{decoded, encoded, hasRow, hasPage};
 ghost use Rattle.layout.specs.declared.place.Place.the-variants.{Sparse, Dense};
 
 pub enum Place {
@@ -21,6 +21,26 @@ pub fn decode(w: u64) -> Place
         return Place::Sparse((w - 1) / 2048, (w - 1) % 2048);
     }
     Place::Dense(w - 268435456)
+}
+
+pub fn has_row(q: Place) -> bool
+    ensures { λ b. ⌜ b ≡ hasRow q ⌝ }
+{
+    match q {
+        Place::Absent => false,
+        Place::Sparse(_, _) => true,
+        Place::Dense(_) => false,
+    }
+}
+
+pub fn has_page(q: Place) -> bool
+    ensures { λ b. ⌜ b ≡ hasPage q ⌝ }
+{
+    match q {
+        Place::Absent => false,
+        Place::Sparse(_, _) => false,
+        Place::Dense(_) => true,
+    }
 }
 
 // The word of a chunk with l members in row r.

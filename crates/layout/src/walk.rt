@@ -1,16 +1,19 @@
-// The walk over the table that calls make before they write to many chunks: sizes, lengths, overflow ids, words and owners.
+// The walk over the table that calls make before they write to many chunks, or plan: every rule that is the table's alone.
 ghost use mathlib.Core.Path.{_≡_};
-ghost use Prim.Native.Nat.{_+_, _≤_};
+ghost use Prim.Native.Nat.{_+_, _≤_, _<_};
+ghost use lib.ListN.{length};
 ghost use lib.Dec.{eqb};
 ghost use Rattle.sums.specs.Rules.{allTo};
 ghost use Rattle.layout.specs.Mem.{memOf};
 ghost use Rattle.document.specs.Sizes.{InRange};
-ghost use Rattle.layout.specs.Sizes.{overCount};
-ghost use Rattle.layout.specs.Entries.{entries};
-ghost use Rattle.layout.specs.Tests.{keyIs, placeIs, headIs, walked};
+ghost use Rattle.layout.specs.Sizes.{tableSize, overCount};
+ghost use Rattle.layout.specs.Tests.{keyIs, wordIs, placeIs, prefixAfter, prefixRises, totalFits, headIs, overIs, entriesAre, tableIs, walked};
 use crate::entry;
 use crate::head;
+use crate::owners;
+use crate::place;
 use crate::place::Place;
+use crate::zeros;
 use document::sizes::Sizes;
 use numbers::order;
 use numbers::place as element;
@@ -47,6 +50,32 @@ pub fn keys_are(table: &[u64], h: Sizes) -> bool
     ok
 }
 
+// The words of overflow entries in use are not 0.
+pub fn words_are(table: &[u64], h: Sizes) -> bool
+    requires { ⌜ InRange h × (overCount (now table) ≤ 65536) ⌝ }
+    ensures { λ b. ⌜ b ≡ allTo (wordIs h (now (table .entry))) (overCount (now (table .entry))) ⌝ }
+{
+    let n = element::at(table, 7);
+    let mut ok = true;
+    let mut j: u64 = 0;
+    while j < n {
+        ok = ok & (entry::over_word(table, h, j) != 0);
+        j += 1;
+    }
+    ok
+}
+
+// Overflow entries: ids, words, and zeros past those in use.
+pub fn over_is(table: &[u64], h: Sizes) -> bool
+    requires { ⌜ InRange h × (tableSize h ≤ length (now table)) × (overCount (now table) ≤ h .v) ⌝ }
+    ensures { λ b. ⌜ b ≡ overIs h (now (table .entry)) ⌝ }
+{
+    let n = element::at(table, 7);
+    keys_are(table, h)
+        & words_are(table, h)
+        & zeros::zeros64(table, head::over_at(h, n), head::over_words(h, n))
+}
+
 // Entry e's word names a row or page inside its pool whose owner is the entry's chunk.
 pub fn place_is(table: &[u64], h: Sizes, e: u64) -> bool
     requires { ⌜ InRange h × (e ≤ 327680) ⌝ }
@@ -70,18 +99,57 @@ pub fn place_is(table: &[u64], h: Sizes, e: u64) -> bool
     }
 }
 
-pub fn places_are(table: &[u64], h: Sizes) -> bool
+// What the prefix of entry e may reach: the next one's, after the last entry the total.
+pub fn prefix_after(table: &[u64], h: Sizes, e: u64) -> u64
+    requires { ⌜ InRange h × (e < 327680) × (overCount (now table) ≤ 65536) ⌝ }
+    ensures { λ n. ⌜ n ≡ prefixAfter h (now (table .entry)) e ⌝ }
+{
+    if h.d + element::at(table, 7) <= e + 1 {
+        return element::at(table, 8);
+    }
+    entry::prefix_at(table, h, e + 1)
+}
+
+// An open set keeps no prefixes.
+pub fn prefix_rises(table: &[u64], h: Sizes, e: u64) -> bool
+    requires { ⌜ InRange h × (e < 327680) × (overCount (now table) ≤ 65536) ⌝ }
+    ensures { λ b. ⌜ b ≡ prefixRises h (now (table .entry)) e ⌝ }
+{
+    if element::at(table, 6) != 1 {
+        return true;
+    }
+    entry::prefix_at(table, h, e) <= prefix_after(table, h, e)
+}
+
+// All entries in one pass: their places and prefixes, and how many rows and pages they name.
+pub fn entries_are(table: &[u64], h: Sizes) -> bool
     requires { ⌜ InRange h × (overCount (now table) ≤ 65536) ⌝ }
-    ensures { λ b. ⌜ b ≡ allTo (placeIs h (now (table .entry))) (entries h (now (table .entry))) ⌝ }
+    ensures { λ b. ⌜ b ≡ entriesAre h (now (table .entry)) ⌝ }
 {
     let n = h.d + element::at(table, 7);
-    let mut ok = true;
+    let mut own = true;
+    let mut rising = true;
+    let mut rows: u64 = 0;
+    let mut pages: u64 = 0;
     let mut e: u64 = 0;
     while e < n {
-        ok = ok & place_is(table, h, e);
+        let q = entry::place_at(table, h, e);
+        own = own & place_is(table, h, e);
+        rising = rising & prefix_rises(table, h, e);
+        rows += place::has_row(q) as u64;
+        pages += place::has_page(q) as u64;
         e += 1;
     }
-    ok
+    own
+        & ((owners::rows_owned(table, h) == rows) & (owners::pages_owned(table, h) == pages))
+        & rising
+}
+
+// The total of a ranked set is below 2^63.
+pub fn total_fits(table: &[u64]) -> bool
+    ensures { λ b. ⌜ b ≡ totalFits (now (table .entry)) ⌝ }
+{
+    (element::at(table, 6) != 1) | (element::at(table, 8) < 9223372036854775808)
 }
 
 // The sizes are allowed, the slices long enough, the mode is known and the overflow entries in use fit.
@@ -102,6 +170,14 @@ pub fn head_is(h: Sizes, pages: &[u64], rows: &[u32], blocks: &[u32], table: &[u
         & (element::at(table, 7) <= h.v)
 }
 
+// The table past its sizes: unused words, overflow entries, all entries, the total.
+pub fn table_is(table: &[u64], h: Sizes) -> bool
+    requires { ⌜ InRange h × (tableSize h ≤ length (now table)) × (overCount (now table) ≤ h .v) ⌝ }
+    ensures { λ b. ⌜ b ≡ tableIs h (now (table .entry)) ⌝ }
+{
+    zeros::zeros64(table, 9, 7) & over_is(table, h) & entries_are(table, h) & total_fits(table)
+}
+
 // After it nothing of the table can be found wrong.
 pub fn walk(pages: &[u64], rows: &[u32], blocks: &[u32], table: &[u64]) -> bool
     ensures { λ b. ⌜ b ≡ walked (memOf (pages .entry) (rows .entry) (blocks .entry) (table .entry)) ⌝ }
@@ -110,5 +186,5 @@ pub fn walk(pages: &[u64], rows: &[u32], blocks: &[u32], table: &[u64]) -> bool
     if !head_is(h, pages, rows, blocks, table) {
         return false;
     }
-    keys_are(table, h) & places_are(table, h)
+    table_is(table, h)
 }

@@ -18,10 +18,10 @@ use Rattle.layout.specs.Entries.{entries, chunkAt, wordAt, placeAt}
 use Rattle.document.specs.State.{Kind, absent, sparse, dense, isPresent, isSparse, isDense}
 use Rattle.layout.specs.Meaning.{kindOf, kinds, stateOf}
 use Rattle.document.specs.Answers.{chunksIn}
-use Rattle.layout.specs.Follows.{Follows}
+use Rattle.layout.specs.Tests.{Walked}
 use Rattle.layout.specs.declared.place.Place.{Place}
 use Rattle.layout.specs.declared.place.Place.the-variants.{Absent, Sparse, Dense}
-use Rattle.layout_laws.proofs.Entries.{Ordered, laid-ordered, chunk-direct, chunk-past, word-over, place-of-past, count-chunks}
+use Rattle.layout_laws.proofs.Entries.{Ordered, walked-ordered, chunk-direct, chunk-past, word-over, place-of-past, count-chunks}
 
 -- ---- places and kinds
 
@@ -86,13 +86,13 @@ chunks-both x =
     sum-ext (λ (c : ℕ). boolByte (isPresent (kinds x c))) (λ (c : ℕ). boolByte (isSparse (kinds x c)) + boolByte (isDense (kinds x c))) (lastChunk (head x)) (λ c l. present-one (kinds x c))
     ∙ sum-add (λ (c : ℕ). boolByte (isSparse (kinds x c))) (λ (c : ℕ). boolByte (isDense (kinds x c))) (lastChunk (head x))
 
--- ---- on memory that follows the layout
+-- ---- on memory that passed the walk
 
-module _ {x : Mem} (w : Follows x) where
+module _ {x : Mem} (w : Walked x (head x)) where
   -- the overflow entries in use are chunks, each
   pub chunks-over : chunksIn (stateOf x) ≡ count (λ (e : ℕ). not (eqb (wordAt (head x) (x .table) e) 0)) (head x .d) + overCount (x .table)
   chunks-over =
-      chunks-entries x (laid-ordered w)
+      chunks-entries x (walked-ordered w)
       ∙ count-split (λ (e : ℕ). not (eqb (wordAt (head x) (x .table) e) 0)) (head x .d) (overCount (x .table))
       ∙ ap (λ (k : ℕ). count (λ (e : ℕ). not (eqb (wordAt (head x) (x .table) e) 0)) (head x .d) + k)
       (count-full (λ (j : ℕ). not (eqb (wordAt (head x) (x .table) (head x .d + j)) 0)) (overCount (x .table))
@@ -101,7 +101,7 @@ module _ {x : Mem} (w : Follows x) where
   -- and they are all those with an id of D or more
   pub over-chunks : count (λ (c : ℕ). leb (head x .d) c && isPresent (kinds x c)) (lastChunk (head x)) ≡ overCount (x .table)
   over-chunks =
-      count-kinds x (laid-ordered w) (λ (c : ℕ) (k : Kind). leb (head x .d) c && isPresent k) (λ c. and-no (leb (head x .d) c))
+      count-kinds x (walked-ordered w) (λ (c : ℕ) (k : Kind). leb (head x .d) c && isPresent k) (λ c. and-no (leb (head x .d) c))
       ∙ count-split past (head x .d) (overCount (x .table))
       ∙ ap₂ _+_ (count-none past (head x .d) early) (count-full (λ (j : ℕ). past (head x .d + j)) (overCount (x .table)) late)
       ∙ zero-add (overCount (x .table))
@@ -114,19 +114,19 @@ module _ {x : Mem} (w : Follows x) where
 
       late : (j : ℕ) → j < overCount (x .table) → past (head x .d + j) ≡ true
       late j l =
-          ap₂ _&&_ (le-leb (head x .d) (chunkAt (head x) (x .table) (head x .d + j)) (chunk-past (head x) (x .table) (laid-ordered w) (head x .d + j) (omega arith) (omega arith)))
+          ap₂ _&&_ (le-leb (head x .d) (chunkAt (head x) (x .table) (head x .d + j)) (chunk-past (head x) (x .table) (walked-ordered w) (head x .d + j) (omega arith) (omega arith)))
           (present-word (wordAt (head x) (x .table) (head x .d + j)) ∙ ap not (ne-eqb (wordAt (head x) (x .table) (head x .d + j)) 0 (λ e. w .words j l (sym (word-over (head x) (x .table) j) ∙ e))))
 
   -- sparse chunks are rows with an owner, dense ones pages
   pub sparse-rows : count (λ (c : ℕ). isSparse (kinds x c)) (lastChunk (head x)) ≡ count (λ (r : ℕ). not (eqb (rowOwner (head x) (x .table) r) 0)) (head x .r)
   sparse-rows =
-      count-kinds x (laid-ordered w) (λ (c : ℕ). isSparse) (λ c. refl)
+      count-kinds x (walked-ordered w) (λ (c : ℕ). isSparse) (λ c. refl)
       ∙ count-ext (λ (e : ℕ). isSparse (kindOf (placeAt (head x) (x .table) e))) (λ (e : ℕ). hasRow (placeAt (head x) (x .table) e)) (entries (head x) (x .table)) (λ e l. in-row-is (placeAt (head x) (x .table) e))
       ∙ sym (w .rows-used)
 
   pub dense-pages : count (λ (c : ℕ). isDense (kinds x c)) (lastChunk (head x)) ≡ count (λ (p : ℕ). not (eqb (pageOwner (head x) (x .table) p) 0)) (head x .p)
   dense-pages =
-      count-kinds x (laid-ordered w) (λ (c : ℕ). isDense) (λ c. refl)
+      count-kinds x (walked-ordered w) (λ (c : ℕ). isDense) (λ c. refl)
       ∙ count-ext (λ (e : ℕ). isDense (kindOf (placeAt (head x) (x .table) e))) (λ (e : ℕ). hasPage (placeAt (head x) (x .table) e)) (entries (head x) (x .table)) (λ e l. in-page-is (placeAt (head x) (x .table) e))
       ∙ sym (w .pages-used)
 

@@ -1,16 +1,15 @@
 -- One chunk's turn: what is written for each place, and that it is the chunk's. Assumes nothing.
 use mathlib.Core.Path.{_≡_, sym, _∙_, ap, ap₂, subst}
 use mathlib.Core.List.{List}
-use mathlib.Core.Bool.{Bool, cond}
-use Prim.Native.Nat.{ℕ, _+_, _*_, _≤_, _<_}
+use mathlib.Core.Bool.{false}
+use Prim.Native.Nat.{ℕ, _+_, _*_, _<_}
 use native.Mathlib.Omega.{arith}
 use lib.ListN.{replicate}
-use borrow.Author.Tests.{lt-ltb, le-ltb}
 use Rattle.dense.specs.Bits.{withRow}
-use Rattle.layout.specs.Mem.{Mem, mem}
+use Rattle.layout.specs.Mem.{mem}
 use Rattle.document.specs.Sizes.{top}
 use Rattle.layout.specs.Sizes.{wide}
-use Rattle.layout.specs.Places.{encoded, decoded, rowPart, pagePart}
+use Rattle.layout.specs.Places.{encoded, decoded, hasPage, rowPart, pagePart}
 use Rattle.layout.specs.Entries.{wordOf, placeOf}
 use Rattle.layout.specs.Short.{wordIn}
 use Rattle.document.specs.declared.sizes.Sizes.{Sizes}
@@ -20,20 +19,9 @@ use Rattle.layout.specs.declared.find.Word.{Word}
 use Rattle.layout.specs.declared.find.Word.the-variants as word
 use Rattle.layout.specs.Writes.{putPart, putWord, putRowOwner, putPageOwner, putRow}
 use Rattle.steps.specs.Steps.{paged}
-use Rattle.calls.specs.Prepare.{intoPage, densedIn}
+use Rattle.calls.specs.Prepare.{intoPage}
 use Rattle.prepare.specs.Ready.{RowInside}
 use Rattle.prepare.proofs.Fills.{put-back}
-
--- ---- there is no page p, or it gets the chunk
-
-module _ (h : Sizes) (x : Mem) (c p : ℕ) where
-  pub no-page : h .p ≤ p → x ≡ densedIn h x c p
-  no-page l = ap (λ (b : Bool). cond b (intoPage h x c p (placeOf h (x .table) c)) x) (sym (le-ltb p (h .p) l))
-
-  pub in-page : p < h .p → (q : Place) → q ≡ placeOf h (x .table) c → {y : Mem} → y ≡ intoPage h x c p q → y ≡ densedIn h x c p
-  in-page l q e f =
-      f ∙ ap (intoPage h x c p) e
-      ∙ ap (λ (b : Bool). cond b (intoPage h x c p (placeOf h (x .table) c)) x) (sym (lt-ltb p (h .p) l))
 
 -- ---- what is written
 
@@ -58,6 +46,10 @@ module _ (h : Sizes) (t : List ℕ) (c : ℕ) (has : wordIn t c ≡ word.Is (wor
 
   pub place-is : (w : ℕ) (p q : Place) → r ≡ word.Is w → p ≡ decoded w → p ≡ q → q ≡ placeOf h t c
   place-is w p q e f g = sym g ∙ f ∙ ap decoded (let i : w ≡ wordOf h t c = cc in i)
+
+-- page p is there for a place that is not dense
+pub page-there : (h : Sizes) (p : ℕ) (q s : Place) → q ≡ s → (hasPage s ≡ false → p < h .p) → hasPage q ≡ false → p < h .p
+page-there h p q s e f g = f (ap hasPage (sym e) ∙ g)
 
 -- a row that is the chunk's place lies inside its pool
 pub inside-same : (h : Sizes) (p q : Place) → p ≡ q → RowInside h q → RowInside h p

@@ -4,6 +4,7 @@ use mathlib.Core.List.{List}
 use mathlib.Core.Bool.{Bool, true, false, cond, _&&_}
 use Prim.Native.Nat.{ℕ, _+_, _-_, _*_, _/_, _^_, _≤_, _<_}
 use native.Mathlib.Omega.{arith}
+use lib.ListN.{length}
 use lib.Dec.{ltb, eqb}
 use lib.IntN.{ℤ, pos, negsuc}
 use lib.Pow.{pow-mono}
@@ -19,7 +20,7 @@ use Rattle.sums.specs.Ids.{count}
 use Rattle.sums.proofs.Counts.{count-next}
 use Rattle.layout.specs.Mem.{Mem, mem}
 use Rattle.document.specs.Sizes.{InRange, top}
-use Rattle.layout.specs.Sizes.{head, modeAt, overCount, headerAt}
+use Rattle.layout.specs.Sizes.{blocksOf, head, modeAt, overCount}
 use Rattle.layout.specs.Places.{hasPage}
 use Rattle.layout.specs.Entries.{entries, chunkAt, placeAt}
 use Rattle.layout.specs.Short.{overPlace}
@@ -167,7 +168,7 @@ plan-carried x z q r e f = ap (carriedOut x) (sym f ∙ e) ∙ carried-out x z
 pub prepare-does : (x : Mem) (z : ℤ) → SFits w64 z → {r : Outcome} {y : Mem} → did r y ≡ prepareBy x z → Does x (prepare z) (that r) y
 prepare-does x z f e = does x (prepare z) f (ap byOutcome e)
 
--- ---- a plan to make chunks dense stands on the walk and on room in the overflow table
+-- ---- a plan to make chunks dense stands on the walk and on room
 
 not-make : (n c : ℕ) → Refuse n ≡ Make c → ⊥
 not-make n c e = let z : _≡_ {A = ℕ} 0 1 = cc in omega arith
@@ -175,40 +176,51 @@ not-make n c e = let z : _≡_ {A = ℕ} 0 1 = cc in omega arith
 not-nothing : (c : ℕ) → Nothing ≡ Make c → ⊥
 not-nothing c e = let z : _≡_ {A = ℕ} 0 1 = cc in omega arith
 
-gate-made : (a b : Bool) (p : Preparation) (c : ℕ) → cond a (cond b (Refuse 4) p) (Refuse 3) ≡ Make c → (a ≡ true) × (p ≡ Make c)
+gate-made : (a b : Bool) (p : Preparation) (c : ℕ) → cond a (cond b (Refuse 4) p) (Refuse 3) ≡ Make c → (a ≡ true) × (b ≡ false) × (p ≡ Make c)
 gate-made true true p c e = absurd (not-make 4 c e)
-gate-made true false p c e = (refl, e)
+gate-made true false p c e = (refl, refl, e)
 gate-made false b p c e = absurd (not-make 3 c e)
 
-pick-made : (a b : Bool) (k c : ℕ) → cond a (Refuse 6) (cond b (Refuse 8) (Make k)) ≡ Make c → (a ≡ false) × (k ≡ c)
+pick-made : (a b : Bool) (k c : ℕ) → cond a (Refuse 6) (cond b (Refuse 8) (Make k)) ≡ Make c → (a ≡ false) × (b ≡ false) × (k ≡ c)
 pick-made true b k c e = absurd (not-make 6 c e)
 pick-made false true k c e = absurd (not-make 8 c e)
-pick-made false false k c e = (refl, cc)
+pick-made false false k c e = (refl, refl, cc)
 
-id-made : (x : Mem) (z : ℤ) (c : ℕ) → planId x z ≡ Make c → overNeeded (head x) (x .table) c ≤ head x .v
+-- what was judged
+abbrev Fits : Mem → ℕ → Type 0
+Fits x c = (overNeeded (head x) (x .table) c ≤ head x .v) × (pagesNeeded (head x) (x .table) c ≤ head x .p)
+
+id-made : (x : Mem) (z : ℤ) (c : ℕ) → planId x z ≡ Make c → Fits x c
 unfolding planTo
 id-made x (pos n) c e =
     let k = n / top (head x) in
     let g = pick-made (ltb (head x .v) (overNeeded (head x) (x .table) k)) (ltb (head x .p) (pagesNeeded (head x) (x .table) k)) k c e in
-    subst (λ (i : ℕ). overNeeded (head x) (x .table) i ≤ head x .v) (g .1) (ltb-false (head x .v) (overNeeded (head x) (x .table) k) (g .0))
+    subst (Fits x) (g .2) (ltb-false (head x .v) (overNeeded (head x) (x .table) k) (g .0), ltb-false (head x .p) (pagesNeeded (head x) (x .table) k) (g .1))
 id-made x (negsuc n) c e = absurd (not-nothing c e)
 
 -- whatever the block counts are
-sound : (x : Mem) → Walked x (head x) → Sound (x .pages) (x .rows) (x .table)
-sound x W b l =
+walked-beside : (x : Mem) → Walked x (head x) → (b : List ℕ) → head x .p * blocksOf (head x) ≤ length b → Walked (mem (x .pages) (x .rows) b (x .table)) (head x)
+walked-beside x W b l =
     let r = W .room in
     record {
       sizes = W .sizes;
       room = record { in-pages = r .in-pages; in-rows = r .in-rows; in-blocks = l; in-table = r .in-table };
       mode = W .mode;
+      unused = W .unused;
       over-fits = W .over-fits;
       keys = W .keys;
+      words = W .words;
+      spare = W .spare;
       places = W .places;
+      rows-used = W .rows-used;
+      pages-used = W .pages-used;
+      rising = W .rising;
+      total = W .total;
     }
 
-pub made-sound : (x : Mem) (z : ℤ) (q : Preparation) (c : ℕ) → q ≡ planPrepare x z → q ≡ Make c
-    → Sound (x .pages) (x .rows) (x .table) × (overNeeded (headerAt (x .table)) (x .table) c ≤ headerAt (x .table) .v)
+pub made-sound : (x : Mem) (z : ℤ) (q : Preparation) (c : ℕ) → q ≡ planPrepare x z → q ≡ Make c → Sound (x .pages) (x .rows) (x .table) c
 unfolding planPrepare
 made-sound x z q c e f =
     let g = gate-made (walked x) (eqb (modeAt (x .table)) 1) (planId x z) c (sym e ∙ f) in
-    (sound x (walked-of x .sound (g .0)), id-made x z c (g .1))
+    let k = id-made x z c (g .2) in
+    λ b l. record { walks = walked-beside x (walked-of x .sound (g .0)) b l; mode = g .1; over = k .0; pages = k .1 }

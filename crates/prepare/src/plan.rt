@@ -14,7 +14,7 @@ use document::sizes::Sizes;
 use layout::entry;
 use layout::find;
 use layout::head;
-use layout::place::Place;
+use layout::place;
 use layout::walk;
 use numbers::Natural;
 use numbers::id as ids;
@@ -28,22 +28,12 @@ pub enum Preparation {
     Make(u64),
 }
 
-pub fn is_dense(q: Place) -> bool
-    ensures { λ b. ⌜ b ≡ hasPage q ⌝ }
-{
-    match q {
-        Place::Absent => false,
-        Place::Sparse(_, _) => false,
-        Place::Dense(_) => true,
-    }
-}
-
 // A chunk past c that has a page already.
 pub fn dense_past(table: &[u64], h: Sizes, c: u64, e: u64) -> bool
     requires { ⌜ InRange h × (e ≤ 327680) ⌝ }
     ensures { λ b. ⌜ b ≡ (ltb c (chunkAt h (now (table .entry)) e) && hasPage (placeAt h (now (table .entry)) e)) ⌝ }
 {
-    (c < entry::chunk_at(table, h, e)) & is_dense(entry::place_at(table, h, e))
+    (c < entry::chunk_at(table, h, e)) & place::has_page(entry::place_at(table, h, e))
 }
 
 // Pages in use once chunks 0 to c are dense.

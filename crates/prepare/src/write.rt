@@ -8,9 +8,10 @@ ghost use Rattle.layout.specs.Mem.{mem};
 ghost use Rattle.document.specs.Sizes.{InRange, top};
 ghost use Rattle.layout.specs.Sizes.{wide, headerAt, overCount};
 ghost use Rattle.layout.specs.Places.{encoded, rowPart, pagePart};
+ghost use Rattle.layout.specs.Entries.{placeOf};
 ghost use Rattle.layout.specs.declared.place.Place.the-variants.{Sparse, Dense};
 ghost use Rattle.layout.specs.Writes.{putPart, putWord, putPageOwner};
-ghost use Rattle.calls.specs.Prepare.{intoPage, densedIn, densedTo, overNeeded};
+ghost use Rattle.calls.specs.Prepare.{intoPage, densedTo};
 ghost use Rattle.prepare.specs.Ready.{Sound, Fillable, Turnable};
 use document::sizes::Sizes;
 use layout::find;
@@ -66,15 +67,12 @@ pub fn turn_row(
     turn::turn_entry(table, h, c, r, p);
 }
 
-// Chunk c becomes dense in page p, unless it is dense already or there is no page p.
+// Chunk c becomes dense in page p, unless it is dense already.
 pub fn make_dense(pages: &mut [u64], rows: &mut [u32], table: &mut [u64], h: Sizes, c: u64, p: u64)
-    requires { ⌜ Turnable h (now pages) (now rows) (now table) c ⌝ }
+    requires { ⌜ Turnable h (now pages) (now rows) (now table) c p ⌝ }
     ensures { λ _. ⌜ ((bs : List ℕ) → mem (now (pages .exit)) (now (rows .exit)) bs (now (table .exit))
-        ≡ densedIn h (mem (now (pages .entry)) (now (rows .entry)) bs (now (table .entry))) c p) ⌝ }
+        ≡ intoPage h (mem (now (pages .entry)) (now (rows .entry)) bs (now (table .entry))) c p (placeOf h (now (table .entry)) c)) ⌝ }
 {
-    if h.p <= p {
-        return;
-    }
     let Word::Is(w) = find::word_of(table, c) else {
         return;
     };
@@ -87,7 +85,7 @@ pub fn make_dense(pages: &mut [u64], rows: &mut [u32], table: &mut [u64], h: Siz
 
 // Chunks 0 to c become dense, in rising order, whatever the block counts are. Pages are only taken, so that none below p is free again.
 pub fn make_all(pages: &mut [u64], rows: &mut [u32], table: &mut [u64], c: u64)
-    requires { ⌜ Sound (now pages) (now rows) (now table) × (overNeeded (headerAt (now table)) (now table) c ≤ headerAt (now table) .v) ⌝ }
+    requires { ⌜ Sound (now pages) (now rows) (now table) c ⌝ }
     ensures { λ _. ⌜ ((bs : List ℕ) → mem (now (pages .exit)) (now (rows .exit)) bs (now (table .exit))
         ≡ densedTo (headerAt (now (table .entry))) (mem (now (pages .entry)) (now (rows .entry)) bs (now (table .entry))) (c + 1)) ⌝ }
 {

@@ -1,6 +1,7 @@
 pub mod Puts
 pub mod Table
 pub mod Words
+pub mod Moves
 pub mod Keeps
 pub mod Slots
 pub mod Rowed

@@ -17,11 +17,12 @@ use Rattle.layout.specs.Places.{decoded, encoded, hasRow, hasPage, rowPart, row
 use Rattle.layout.specs.Entries.{entries, chunkAt, placeOf}
 use Rattle.layout.specs.Meaning.{offsets}
 use Rattle.layout.specs.Follows.{AllZero, OwnsRow, Owned, RowListed, Laid}
+use Rattle.layout.specs.Tests.{rowsOwned, pagesOwned, Walked}
 use Rattle.document.specs.declared.sizes.Sizes.{Sizes}
 use Rattle.layout.specs.declared.place.Place.{Place}
 use Rattle.layout.specs.declared.place.Place.the-variants.{Absent, Sparse, Dense}
 use Rattle.layout.proofs.Places.{decoded-encoded-dense}
-use Rattle.layout_laws.proofs.Entries.{laid-ordered}
+use Rattle.layout_laws.proofs.Entries.{walked-ordered}
 use Rattle.layout_laws.proofs.Owners.{page-of}
 use Rattle.layout_laws.proofs.Short.{owned-of}
 use Rattle.layout_laws.proofs.Walked.{laid-walked}
@@ -33,13 +34,14 @@ use Rattle.layout.proofs.Added.{same-or}
 use Rattle.steps.proofs.Table.{Wrote, Worded, owner-set}
 use Rattle.steps.proofs.Words.{put-word}
 use Rattle.steps.proofs.Slots.{entry-free, entry-none, taken, not-taken, used-change}
-use Rattle.steps.proofs.Keeps.{Untouched, rowsUsed, pagesUsed, Stepped, becomes}
+use Rattle.steps.proofs.Moves.{Untouched, Moved}
+use Rattle.steps.proofs.Keeps.{Stepped, becomes}
 
 -- ---- the place that chunk c leaves, its word being written already
 
-module _ (h : Sizes) (x : Mem) (L : Laid x h) (c w : ℕ) (u : List ℕ) (worded : Worded h (x .table) u c w) where
+module _ (h : Sizes) (x : Mem) (W : Walked x h) (c w : ℕ) (u : List ℕ) (worded : Worded h (x .table) u c w) where
   room-for : (r : ℕ) → r < h .r → r * h .m + h .m ≤ length (x .rows)
-  room-for r l = slot-in (h .m) (h .r) r (length (x .rows)) l (L .room .in-rows)
+  room-for r l = slot-in (h .m) (h .r) r (length (x .rows)) l (W .room .in-rows)
 
   left-wrote : (q : Place) → Wrote h (x .table) (leftOwner h u q) c w
   left-wrote Absent = worded .wrote
@@ -65,7 +67,7 @@ module _ (h : Sizes) (x : Mem) (L : Laid x h) (c w : ℕ) (u : List ℕ) (worded
   left-off r j d = getD-set-other u (rowOwnersAt h + r) (rowOwnersAt h + j) 0 0 (omega arith) ∙ row-same j
 
   left-here : (r : ℕ) → r < h .r → rowOwner h (putRowOwner h u r 0) r ≡ 0
-  left-here r l = getD-set-same u (rowOwnersAt h + r) 0 0 (let n = worded .wrote .len in let m = L .room .in-table in omega arith)
+  left-here r l = getD-set-same u (rowOwnersAt h + r) 0 0 (let n = worded .wrote .len in let m = W .room .in-table in omega arith)
 
   -- it is no other chunk's
   left-other : (q : Place) → Owned h (x .table) c q → (i j k : ℕ) → i ≢ c → OwnsRow h (x .table) i j k →
@@ -78,19 +80,20 @@ module _ (h : Sizes) (x : Mem) (L : Laid x h) (c w : ℕ) (u : List ℕ) (worded
       (left-off r j n, slot-kept (x .rows) (h .m) r _ (length-replicate (h .m) _) (room-for r (o .there)) j n)
   left-other (Dense p) o i j k d e = (row-same j, refl)
 
-  left-free : (q : Place) → Owned h (x .table) c q → (j : ℕ) → j < h .r → rowOwner h (leftOwner h u q) j ≡ 0 → AllZero (leftRow h (x .rows) q) (j * h .m) (h .m)
-  left-free Absent o j m z = L .free-rows j m (sym (row-same j) ∙ z)
-  left-free (Sparse r l) o j m z = go (same-or j r)
+  left-free : ((r : ℕ) → r < h .r → rowOwner h (x .table) r ≡ 0 → AllZero (x .rows) (r * h .m) (h .m))
+      → (q : Place) → Owned h (x .table) c q → (j : ℕ) → j < h .r → rowOwner h (leftOwner h u q) j ≡ 0 → AllZero (leftRow h (x .rows) q) (j * h .m) (h .m)
+  left-free was Absent o j m z = was j m (sym (row-same j) ∙ z)
+  left-free was (Sparse r l) o j m z = go (same-or j r)
     where
       go : (j ≡ r) ⊎ (j ≢ r) → AllZero (leftRow h (x .rows) (Sparse r l)) (j * h .m) (h .m)
       go (inl e) = subst (λ (i : ℕ). AllZero (leftRow h (x .rows) (Sparse r l)) (i * h .m) (h .m)) (sym e) (zero-put (x .rows) (h .m) r (room-for r (o .there)))
-      go (inr d) = zero-kept (x .rows) (h .m) r _ (length-replicate (h .m) _) (room-for r (o .there)) j d (L .free-rows j m (sym (left-off r j d) ∙ z))
-  left-free (Dense p) o j m z = L .free-rows j m (sym (row-same j) ∙ z)
+      go (inr d) = zero-kept (x .rows) (h .m) r _ (length-replicate (h .m) _) (room-for r (o .there)) j d (was j m (sym (left-off r j d) ∙ z))
+  left-free was (Dense p) o j m z = was j m (sym (row-same j) ∙ z)
 
-  rows-alike : (t : List ℕ) → ((j : ℕ) → j < h .r → rowOwner h t j ≡ rowOwner h (x .table) j) → rowsUsed h t ≡ rowsUsed h (x .table)
+  rows-alike : (t : List ℕ) → ((j : ℕ) → j < h .r → rowOwner h t j ≡ rowOwner h (x .table) j) → rowsOwned h t ≡ rowsOwned h (x .table)
   rows-alike t f = count-ext (λ (j : ℕ). not (eqb (rowOwner h t j) 0)) (λ (j : ℕ). not (eqb (rowOwner h (x .table) j) 0)) (h .r) (λ j m. ap (λ (v : ℕ). not (eqb v 0)) (f j m))
 
-  left-count : (q : Place) → Owned h (x .table) c q → rowsUsed h (leftOwner h u q) + boolByte (hasRow q) ≡ rowsUsed h (x .table)
+  left-count : (q : Place) → Owned h (x .table) c q → rowsOwned h (leftOwner h u q) + boolByte (hasRow q) ≡ rowsOwned h (x .table)
   left-count Absent o = let a = rows-alike u (λ j m. row-same j) in omega arith
   left-count (Sparse r l) o =
       let a = used-change (rowOwner h (x .table)) (rowOwner h (putRowOwner h u r 0)) r (h .r) (o .there) (λ j m d. left-off r j d) in
@@ -99,7 +102,8 @@ module _ (h : Sizes) (x : Mem) (L : Laid x h) (c w : ℕ) (u : List ℕ) (worded
 
 -- ---- the step
 
-module _ (h : Sizes) (x : Mem) (L : Laid x h) (c : ℕ) (old : Place) (p : ℕ) (page : List ℕ) (old-is : old ≡ placeOf h (x .table) c) (there : p < h .p) (long : length page ≡ wide h) (came : PageFor h (x .table) c old p) where
+module _ (h : Sizes) (x : Mem) (W : Walked x h) (c : ℕ) (old : Place) (p : ℕ) (page : List ℕ) (old-is : old ≡ placeOf h (x .table) c) (there : p < h .p)
+    (long : length page ≡ wide h) (came : PageFor h (x .table) c old p) where
   w : ℕ
   w = encoded (Dense p)
 
@@ -108,14 +112,14 @@ module _ (h : Sizes) (x : Mem) (L : Laid x h) (c : ℕ) (old : Place) (p : ℕ) 
   word-is = decoded-encoded-dense p
 
   mine : Owned h (x .table) c old
-  mine = subst (Owned h (x .table) c) (sym old-is) (owned-of (laid-walked L) c)
+  mine = subst (Owned h (x .table) c) (sym old-is) (owned-of W c)
 
   t : List ℕ
   t = putWord h (x .table) c w
 
   worded : Worded h (x .table) t c w
   unfolding t
-  worded = put-word h (x .table) (laid-ordered L) (L .room .in-table) (L .over-fits) c w (λ none. free none came)
+  worded = put-word h (x .table) (walked-ordered W) (W .room .in-table) (W .over-fits) c w (λ none. free none came)
     where
       free : ((e : ℕ) → e < entries h (x .table) → chunkAt h (x .table) e ≢ c) → PageFor h (x .table) c old p → overCount (x .table) < h .v
       free none (new-page n o f) = entry-free h (x .table) c none (f (old-is ∙ entry-none h (x .table) c none))
@@ -129,7 +133,7 @@ module _ (h : Sizes) (x : Mem) (L : Laid x h) (c : ℕ) (old : Place) (p : ℕ) 
   table-is = refl
 
   inside : pageOwnersAt h + p < length (leftOwner h t old)
-  inside = let n = left-wrote h x L c w t worded old .len in let m = L .room .in-table in omega arith
+  inside = let n = left-wrote h x W c w t worded old .len in let m = W .room .in-table in omega arith
 
   owner-here : pageOwner h (y .table) p ≡ c + 1
   owner-here = ap (λ (u : List ℕ). pageOwner h u p) table-is ∙ getD-set-same (leftOwner h t old) (pageOwnersAt h + p) (c + 1) 0 inside
@@ -138,16 +142,16 @@ module _ (h : Sizes) (x : Mem) (L : Laid x h) (c : ℕ) (old : Place) (p : ℕ) 
   page-off j d =
       ap (λ (u : List ℕ). pageOwner h u j) table-is
       ∙ getD-set-other (leftOwner h t old) (pageOwnersAt h + p) (pageOwnersAt h + j) (c + 1) 0 (omega arith)
-      ∙ left-page h x L c w t worded old mine j
+      ∙ left-page h x W c w t worded old mine j
 
   row-left : (j : ℕ) → j < h .r → rowOwner h (y .table) j ≡ rowOwner h (leftOwner h t old) j
   row-left j m = ap (λ (u : List ℕ). rowOwner h u j) table-is ∙ getD-set-other (leftOwner h t old) (pageOwnersAt h + p) (rowOwnersAt h + j) (c + 1) 0 (omega arith)
 
   room : p * wide h + wide h ≤ length (x .pages)
-  room = slot-in (wide h) (h .p) p (length (x .pages)) there (L .room .in-pages)
+  room = slot-in (wide h) (h .p) p (length (x .pages)) there (W .room .in-pages)
 
   own-owner : old ≡ Dense p → pageOwner h (x .table) p ≡ c + 1
-  own-owner q = page-of (laid-walked L) c p (sym old-is ∙ q) .owner
+  own-owner q = page-of W c p (sym old-is ∙ q) .owner
 
   -- no other chunk has this page
   owner-was : (i : ℕ) → i ≢ c → pageOwner h (x .table) p ≢ i + 1
@@ -160,40 +164,28 @@ module _ (h : Sizes) (x : Mem) (L : Laid x h) (c : ℕ) (old : Place) (p : ℕ) 
   others : (i : ℕ) (q : Place) → i ≢ c → Owned h (x .table) i q → Untouched h x y q
   unfolding y paged
   others i Absent d o = tt
-  others i (Sparse j k) d o = let e = left-other h x L c w t worded old mine i j k d o in (row-left j (o .there) ∙ e .0, e .1)
+  others i (Sparse j k) d o = let e = left-other h x W c w t worded old mine i j k d o in (row-left j (o .there) ∙ e .0, e .1)
   others i (Dense j) d o =
       let n : j ≢ p = λ e. owner-was i d (ap (pageOwner h (x .table)) (sym e) ∙ o .owner) in
       (page-off j n, slot-kept (x .pages) (wide h) p page long room j n)
 
-  rows-free : (j : ℕ) → j < h .r → rowOwner h (y .table) j ≡ 0 → AllZero (y .rows) (j * h .m) (h .m)
-  unfolding y paged
-  rows-free j m z = left-free h x L c w t worded old mine j m (sym (row-left j m) ∙ z)
-
-  pages-free : (j : ℕ) → j < h .p → pageOwner h (y .table) j ≡ 0 → AllZero (y .pages) (j * wide h) (wide h)
-  unfolding y paged
-  pages-free j m z = go (same-or j p)
-    where
-      go : (j ≡ p) ⊎ (j ≢ p) → AllZero (putPart (x .pages) (p * wide h) (wide h) page) (j * wide h) (wide h)
-      go (inl e) = absurd (let a = ap (pageOwner h (y .table)) e in let b = owner-here in omega arith)
-      go (inr d) = zero-kept (x .pages) (wide h) p page long room j d (L .free-pages j m (sym (page-off j d) ∙ z))
-
-  rows-count : rowsUsed h (y .table) + boolByte (hasRow (placeOf h (x .table) c)) ≡ rowsUsed h (x .table) + boolByte (hasRow (decoded w))
+  rows-count : rowsOwned h (y .table) + boolByte (hasRow (placeOf h (x .table) c)) ≡ rowsOwned h (x .table) + boolByte (hasRow (decoded w))
   rows-count =
       let a = count-ext (λ (j : ℕ). not (eqb (rowOwner h (y .table) j) 0)) (λ (j : ℕ). not (eqb (rowOwner h (leftOwner h t old) j) 0)) (h .r) (λ j m. ap (λ (v : ℕ). not (eqb v 0)) (row-left j m)) in
       let b = ap (λ (q : Place). boolByte (hasRow q)) old-is in
       let e = ap (λ (q : Place). boolByte (hasRow q)) word-is in
-      omega (arith, left-count h x L c w t worded old mine)
+      omega (arith, left-count h x W c w t worded old mine)
 
-  pages-change : pagesUsed h (y .table) + boolByte (not (eqb (pageOwner h (x .table) p) 0)) ≡ pagesUsed h (x .table) + boolByte (hasPage (decoded w))
+  pages-change : pagesOwned h (y .table) + boolByte (not (eqb (pageOwner h (x .table) p) 0)) ≡ pagesOwned h (x .table) + boolByte (hasPage (decoded w))
   pages-change =
       let a = used-change (pageOwner h (x .table)) (pageOwner h (y .table)) p (h .p) there (λ j m d. page-off j d) in
       let b = ap (λ (q : Place). boolByte (hasPage q)) word-is in
       omega (arith, taken (pageOwner h (y .table) p) c owner-here)
 
-  pages-count : pagesUsed h (y .table) + boolByte (hasPage (placeOf h (x .table) c)) ≡ pagesUsed h (x .table) + boolByte (hasPage (decoded w))
+  pages-count : pagesOwned h (y .table) + boolByte (hasPage (placeOf h (x .table) c)) ≡ pagesOwned h (x .table) + boolByte (hasPage (decoded w))
   pages-count = go came
     where
-      go : PageFor h (x .table) c old p → pagesUsed h (y .table) + boolByte (hasPage (placeOf h (x .table) c)) ≡ pagesUsed h (x .table) + boolByte (hasPage (decoded w))
+      go : PageFor h (x .table) c old p → pagesOwned h (y .table) + boolByte (hasPage (placeOf h (x .table) c)) ≡ pagesOwned h (x .table) + boolByte (hasPage (decoded w))
       go (new-page n o f) =
           let a = ap (λ (q : Place). boolByte (hasPage q)) old-is in
           let b = ap boolByte n in
@@ -202,23 +194,50 @@ module _ (h : Sizes) (x : Mem) (L : Laid x h) (c : ℕ) (old : Place) (p : ℕ) 
           let a = ap (λ (q : Place). boolByte (hasPage q)) (sym old-is ∙ q) in
           omega (arith, pages-change, taken (pageOwner h (x .table) p) c (own-owner q))
 
-  pub page-stepped : Stepped h x (paged h x c old p page) c (encoded (Dense p))
+  pub page-moved : Moved h x (paged h x c old p page) c (encoded (Dense p))
   unfolding y t w paged
-  page-stepped =
+  page-moved =
       record {
-        wrote = owner-set h (x .table) (leftOwner h t old) c w (pageOwnersAt h + p) (c + 1) (left-wrote h x L c w t worded old) (omega arith);
+        wrote = owner-set h (x .table) (leftOwner h t old) c w (pageOwnersAt h + p) (c + 1) (left-wrote h x W c w t worded old) (omega arith);
         some = omega arith;
-        rows-long = left-rows-long h x L c w t worded old mine;
+        rows-long = left-rows-long h x W c w t worded old mine;
         pages-long = length-put (x .pages) (p * wide h) (wide h) page long room;
         blocks = refl;
         owned = subst (Owned h (y .table) c) (sym word-is) (record { there = there; owner = owner-here });
-        listed = subst (RowListed h (y .rows)) (sym word-is) tt;
         others = others;
-        free-rows = rows-free;
-        free-pages = pages-free;
         rows-used = rows-count;
         pages-used = pages-count;
       }
+
+  -- every other page has the owner that it had
+  pub paged-owner : (j : ℕ) → j ≢ p → pageOwner h (paged h x c old p page .table) j ≡ pageOwner h (x .table) j
+  unfolding y
+  paged-owner = page-off
+
+  -- ---- where free slots hold zeros
+
+  module _ (L : Laid x h) where
+    rows-free : (j : ℕ) → j < h .r → rowOwner h (y .table) j ≡ 0 → AllZero (y .rows) (j * h .m) (h .m)
+    unfolding y paged
+    rows-free j m z = left-free h x W c w t worded (L .free-rows) old mine j m (sym (row-left j m) ∙ z)
+
+    pages-free : (j : ℕ) → j < h .p → pageOwner h (y .table) j ≡ 0 → AllZero (y .pages) (j * wide h) (wide h)
+    unfolding y paged
+    pages-free j m z = go (same-or j p)
+      where
+        go : (j ≡ p) ⊎ (j ≢ p) → AllZero (putPart (x .pages) (p * wide h) (wide h) page) (j * wide h) (wide h)
+        go (inl e) = absurd (let a = ap (pageOwner h (y .table)) e in let b = owner-here in omega arith)
+        go (inr d) = zero-kept (x .pages) (wide h) p page long room j d (L .free-pages j m (sym (page-off j d) ∙ z))
+
+    pub page-stepped : Stepped h x (paged h x c old p page) c (encoded (Dense p))
+    unfolding y w
+    page-stepped =
+        record {
+          moved = page-moved;
+          listed = subst (RowListed h (y .rows)) (sym word-is) tt;
+          free-rows = rows-free;
+          free-pages = pages-free;
+        }
 
   page-offsets : (o : ℕ) → offsets h (paged h x c old p page) (Dense p) o ≡ isSet page o
   unfolding paged
@@ -228,7 +247,8 @@ module _ (h : Sizes) (x : Mem) (L : Laid x h) (c : ℕ) (old : Place) (p : ℕ) 
 pub paged-becomes : (x : Mem) (c : ℕ) (old : Place) (p : ℕ) (page : List ℕ) → PagedOk x c old p page → Becomes x (paged (head x) x c old p page) c (Dense p) (isSet page)
 paged-becomes x c old p page k =
     let L = k .set .follows in
+    let W = laid-walked L in
     becomes x (paged (head x) x c old p page) c (encoded (Dense p)) (Dense p) (isSet page) (k .set)
-    (page-stepped (head x) x L c old p page (k .old-is) (k .there) (k .long) (k .came))
+    (page-stepped (head x) x W c old p page (k .old-is) (k .there) (k .long) (k .came) L)
     (decoded-encoded-dense p)
-    (page-offsets (head x) x L c old p page (k .old-is) (k .there) (k .long) (k .came))
+    (page-offsets (head x) x W c old p page (k .old-is) (k .there) (k .long) (k .came))

@@ -32,7 +32,9 @@ use Rattle.layout.proofs.Added.{same-or}
 use Rattle.steps.proofs.Table.{Worded, owner-set}
 use Rattle.steps.proofs.Words.{put-word}
 use Rattle.steps.proofs.Slots.{entry-free, entry-none, taken, not-taken, used-change}
-use Rattle.steps.proofs.Keeps.{Untouched, rowsUsed, pagesUsed, Stepped, becomes}
+use Rattle.steps.proofs.Moves.{Untouched, Moved}
+use Rattle.steps.proofs.Keeps.{Stepped, becomes}
+use Rattle.layout.specs.Tests.{rowsOwned, pagesOwned}
 
 module _ (h : Sizes) (x : Mem) (L : Laid x h) (c r l : ℕ) (row : List ℕ) (there : r < h .r) (some : 1 ≤ l) (short : l ≤ h .m) (long : length row ≡ h .m) (listed : Listed h row l) (came : RowFor h (x .table) c r) where
   -- the word, and the table with it
@@ -110,16 +112,16 @@ module _ (h : Sizes) (x : Mem) (L : Laid x h) (c r l : ℕ) (row : List ℕ) (th
   unfolding y rowed
   pages-free p m z = L .free-pages p m (sym (page-same p) ∙ z)
 
-  rows-change : rowsUsed h (y .table) + boolByte (not (eqb (rowOwner h (x .table) r) 0)) ≡ rowsUsed h (x .table) + boolByte (hasRow (decoded w))
+  rows-change : rowsOwned h (y .table) + boolByte (not (eqb (rowOwner h (x .table) r) 0)) ≡ rowsOwned h (x .table) + boolByte (hasRow (decoded w))
   rows-change =
       let a = used-change (rowOwner h (x .table)) (rowOwner h (y .table)) r (h .r) there (λ j m d. row-off j d) in
       let b = ap (λ (q : Place). boolByte (hasRow q)) word-is in
       omega (arith, taken (rowOwner h (y .table) r) c owner-here)
 
-  rows-count : rowsUsed h (y .table) + boolByte (hasRow (placeOf h (x .table) c)) ≡ rowsUsed h (x .table) + boolByte (hasRow (decoded w))
+  rows-count : rowsOwned h (y .table) + boolByte (hasRow (placeOf h (x .table) c)) ≡ rowsOwned h (x .table) + boolByte (hasRow (decoded w))
   rows-count = go came
     where
-      go : RowFor h (x .table) c r → rowsUsed h (y .table) + boolByte (hasRow (placeOf h (x .table) c)) ≡ rowsUsed h (x .table) + boolByte (hasRow (decoded w))
+      go : RowFor h (x .table) c r → rowsOwned h (y .table) + boolByte (hasRow (placeOf h (x .table) c)) ≡ rowsOwned h (x .table) + boolByte (hasRow (decoded w))
       go (new-row q o f) = let a = ap (λ (q : Place). boolByte (hasRow q)) q in omega (arith, rows-change, not-taken (rowOwner h (x .table) r) o)
       go (own-row k q) =
           let a = ap (λ (q : Place). boolByte (hasRow q)) q in
@@ -132,16 +134,16 @@ module _ (h : Sizes) (x : Mem) (L : Laid x h) (c r l : ℕ) (row : List ℕ) (th
       go (new-row q o f) = ap hasPage q
       go (own-row k q) = ap hasPage q
 
-  pages-count : pagesUsed h (y .table) + boolByte (hasPage (placeOf h (x .table) c)) ≡ pagesUsed h (x .table) + boolByte (hasPage (decoded w))
+  pages-count : pagesOwned h (y .table) + boolByte (hasPage (placeOf h (x .table) c)) ≡ pagesOwned h (x .table) + boolByte (hasPage (decoded w))
   pages-count =
       let a = count-ext (λ (p : ℕ). not (eqb (pageOwner h (y .table) p) 0)) (λ (p : ℕ). not (eqb (pageOwner h (x .table) p) 0)) (h .p) (λ p m. ap (λ (v : ℕ). not (eqb v 0)) (page-same p)) in
       let b = ap boolByte not-dense in
       let e = ap (λ (q : Place). boolByte (hasPage q)) word-is in
       omega arith
 
-  pub row-stepped : Stepped h x (rowed h x c r l row) c (encoded (Sparse r l))
+  row-moved : Moved h x (rowed h x c r l row) c (encoded (Sparse r l))
   unfolding y w rowed
-  row-stepped =
+  row-moved =
       record {
         wrote = owner-set h (x .table) (putWord h (x .table) c w) c w (rowOwnersAt h + r) (c + 1) (worded .wrote) (omega arith);
         some = omega arith;
@@ -149,12 +151,19 @@ module _ (h : Sizes) (x : Mem) (L : Laid x h) (c r l : ℕ) (row : List ℕ) (th
         pages-long = refl;
         blocks = refl;
         owned = subst (Owned h (y .table) c) (sym word-is) (record { there = there; some = some; short = short; owner = owner-here });
-        listed = subst (RowListed h (y .rows)) (sym word-is) (subst (λ (u : List ℕ). Listed h u l) (sym (slot-put (x .rows) (h .m) r row long room)) listed);
         others = others;
-        free-rows = rows-free;
-        free-pages = pages-free;
         rows-used = rows-count;
         pages-used = pages-count;
+      }
+
+  pub row-stepped : Stepped h x (rowed h x c r l row) c (encoded (Sparse r l))
+  unfolding y w rowed
+  row-stepped =
+      record {
+        moved = row-moved;
+        listed = subst (RowListed h (y .rows)) (sym word-is) (subst (λ (u : List ℕ). Listed h u l) (sym (slot-put (x .rows) (h .m) r row long room)) listed);
+        free-rows = rows-free;
+        free-pages = pages-free;
       }
 
   row-offsets : (o : ℕ) → offsets h (rowed h x c r l row) (Sparse r l) o ≡ member (rowOf row) l o

@@ -51,6 +51,18 @@ and-of {a} {b} d e = record {
   whole = λ p. ap₂ _&&_ (d .whole (p .0)) (e .whole (p .1));
 }
 
+-- no to P is yes to its denial
+not-sound : (a : Bool) {P : Type 0} → Decides a P → not a ≡ true → P → ⊥
+not-sound true d h p = let z : _≡_ {A = ℕ} 0 1 = cc in omega arith
+not-sound false d h p = let e : false ≡ true = d .whole p in let z : _≡_ {A = ℕ} 0 1 = cc in omega arith
+
+not-whole : (a : Bool) {P : Type 0} → Decides a P → (P → ⊥) → not a ≡ true
+not-whole true d n = absurd (n (d .sound refl))
+not-whole false d n = refl
+
+pub not-of : {a : Bool} {P : Type 0} → Decides a P → Decides (not a) (P → ⊥)
+not-of {a} d = record { sound = not-sound a d; whole = not-whole a d }
+
 -- "unless P, Q": the test a || b
 unless-sound : (a b : Bool) {P Q : Type 0} → Decides a P → Decides b Q → (a || b) ≡ true → (P → ⊥) → Q
 unless-sound true b d e h n = absurd (n (d .sound refl))
@@ -86,6 +98,9 @@ same-test {a} {b} d e = go a refl b refl
     go true p t q = p ∙ sym (e .whole (d .sound p))
     go false p true q = d .whole (e .sound q) ∙ sym q
     go false p false q = p ∙ sym q
+
+pub bool-of : (b : Bool) → Decides b (b ≡ true)
+bool-of b = record { sound = λ h. h; whole = λ h. h }
 
 pub leb-of : (m n : ℕ) → Decides (leb m n) (m ≤ n)
 leb-of m n = record { sound = leb-true m n; whole = le-leb m n }

@@ -1,7 +1,8 @@
 -- By the owner.
 use native.Mathlib.Omega.{arith}
 use mathlib.Core.Path.{_∙_, ap₂}
-use Rattle.fullcheck.specs.Check.{zeros, freePageIs}
+use Rattle.layout.specs.Tests.{zeros}
+use Rattle.fullcheck.specs.Check.{freePageIs}
 use Rattle.fullcheck.proofs.Ways.{part-inside, free-some, free-none}
 use Rattle.fullcheck.proofs.pages.free_page.Statement.{statement}
 use Rattle.fullcheck.proofs.pages.free_page.Tie as tie

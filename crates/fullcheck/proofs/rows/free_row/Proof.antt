@@ -1,7 +1,8 @@
 -- By the owner.
 use native.Mathlib.Omega.{arith}
 use mathlib.Core.Path.{_∙_, refl, ap₂}
-use Rattle.fullcheck.specs.Check.{zeros, freeRowIs}
+use Rattle.layout.specs.Tests.{zeros}
+use Rattle.fullcheck.specs.Check.{freeRowIs}
 use Rattle.fullcheck.proofs.Ways.{part-inside, free-some, free-none}
 use Rattle.fullcheck.proofs.rows.free_row.Statement.{statement}
 use Rattle.fullcheck.proofs.rows.free_row.Tie as tie

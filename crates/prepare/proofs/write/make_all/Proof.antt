@@ -21,7 +21,7 @@ read-requires c κs = search needs
 range : (c : tie.After-read Inv-loop μ-loop) → InRange (c .read .result)
 range c =
     let a = c .before .before .before .before .before in
-    subst InRange (sym (c .read .ensures)) (sound-range (a .args .pages .now) (a .args .rows .now) (a .args .table .now) (a .pre .0))
+    subst InRange (sym (c .read .ensures)) (sound-range (a .args .pages .now) (a .args .rows .now) (a .args .table .now) (a .args .c) (a .pre))
 
 free-page-requires : tie.Need-free-page-requires Inv-loop μ-loop
 free-page-requires c κs = range (c .before)
@@ -30,8 +30,8 @@ abbrev start : tie.At-loop Inv-loop μ-loop → tie.Start Inv-loop μ-loop
 start l = l .before .before .before .before .before .before .before .before
 
 turnable : (l : tie.At-loop Inv-loop μ-loop) → l .loop .i ≤ start l .args .c →
-    Turnable (l .before .before .before .read .result) (l .loop .pages) (l .loop .rows) (l .loop .table) (l .loop .i)
-turnable l m = underway-turn _ _ _ _ (start l .args .c) (start l .pre .0) (start l .pre .1) _ _ _ _ (l .loop .i) (l .loop .inv) m
+    Turnable (l .before .before .before .read .result) (l .loop .pages) (l .loop .rows) (l .loop .table) (l .loop .i) (l .loop .p)
+turnable l m = underway-turn _ _ _ _ (start l .args .c) (start l .pre) _ _ _ _ (l .loop .i) (l .loop .inv) m
 
 loop-holds : tie.Need-loop-holds Inv-loop μ-loop
 loop-holds c =
@@ -45,7 +45,7 @@ make-dense-requires c κs = turnable (c .before .before .before .before) (omega 
 next-page-requires : tie.Need-next-page-requires Inv-loop μ-loop
 next-page-requires c κs =
     let l = c .before .before .before .before .before .before .before .before .before .before .before .before in
-    (range (l .before .before .before), underway-cursor _ _ _ _ (start l .args .c) (start l .pre .0) (start l .pre .1) _ _ _ _ (l .loop .i) (l .loop .inv))
+    (range (l .before .before .before), underway-cursor _ _ _ _ (start l .args .c) (start l .pre) _ _ _ _ (l .loop .i) (l .loop .inv))
 
 add-i : tie.Need-add-i Inv-loop μ-loop
 add-i c =
@@ -60,7 +60,7 @@ loop-again c =
     let t = c .before .before .before .before .before .before .before .before .before .before .before .before in
     let l = t .before in
     let k = c .before .before .before .before .before .before .before .before .make-dense in
-    underway-more _ _ _ _ (start l .args .c) (start l .pre .0) (start l .pre .1) _ _ _ _ (l .loop .i) (l .loop .inv)
+    underway-more _ _ _ _ (start l .args .c) (start l .pre) _ _ _ _ (l .loop .i) (l .loop .inv)
     (omega (arith, t .loop-test .taken)) _ _ _ _ (k .kept .0) (k .kept .1 .0) (k .kept .1 .1 .0) (k .ensures) (c .next-page .ensures)
 
 same-length : tie.Need-same-length Inv-loop μ-loop
@@ -75,7 +75,7 @@ same-length-3 c = c .before .loop .inv .table-long
 returns : tie.Need-returns Inv-loop μ-loop
 returns c =
     let l = c .before in
-    underway-end _ _ _ _ (start l .args .c) (start l .pre .0) (start l .pre .1) _ _ _ _ (l .loop .i) (l .loop .inv) (omega (arith, c .loop-test .left))
+    underway-end _ _ _ _ (start l .args .c) (start l .pre) _ _ _ _ (l .loop .i) (l .loop .inv) (omega (arith, c .loop-test .left))
 
 pub make-all-spec : {M : Type 1} → statement M
 make-all-spec =

@@ -4,9 +4,9 @@ use native.Mathlib.Omega.{arith}
 use mathlib.Core.Path.{_≡_, refl}
 use Rattle.sums.specs.Rules.{allTo}
 use Rattle.sums.proofs.Rules.{all-none, all-more, all-end}
-use Rattle.fullcheck.specs.Check.{zeroAt, zeros}
-use Rattle.fullcheck.proofs.zeros.zeros32.Statement.{statement}
-use Rattle.fullcheck.proofs.zeros.zeros32.Tie as tie
+use Rattle.layout.specs.Tests.{zeroAt, zeros}
+use Rattle.layout.proofs.zeros.zeros32.Statement.{statement}
+use Rattle.layout.proofs.zeros.zeros32.Tie as tie
 
 abbrev Inv-loop : tie.InvT-loop
 Inv-loop t a n ok₀ i₀ ok i = (i ≤ n) × (ok ≡ allTo (zeroAt t a) i)

@@ -2,7 +2,7 @@
 ghost use mathlib.Core.Path.{_≡_};
 ghost use Prim.Native.Nat.{_+_, _≤_};
 ghost use lib.ListN.{length};
-ghost use Rattle.fullcheck.specs.Check.{zeros};
+ghost use Rattle.layout.specs.Tests.{zeros};
 
 // The n words from a are 0.
 pub fn zeros64(t: &[u64], a: u64, n: u64) -> bool
