@@ -11,7 +11,7 @@ use Rattle.dense.proofs.Bits.{zero-clear}
 use Rattle.layout.specs.Mem.{Mem}
 use Rattle.document.specs.Sizes.{top, lastChunk}
 use Rattle.layout.specs.Sizes.{wide, head, modeAt}
-use Rattle.layout.specs.Places.{hasPage, rowPart, pagePart}
+use Rattle.layout.specs.Places.{hasPage, rowPart, pagePart, pageOwner}
 use Rattle.layout.specs.Entries.{placeOf}
 use Rattle.document.specs.State.{dense}
 use Rattle.layout.specs.Meaning.{offsets, holds, kinds, ranked, stateOf}
@@ -173,8 +173,8 @@ module _ (x : Mem) (mode : ranked x ≡ false) (c n : ℕ) (le : n ≤ c) (far :
       subst Takes (sym (takes-is q e i)) (turn-becomes (takes-becomes q e i) (subst (λ (p : Place). Moves y p (Dense free)) (sym e) m))
 
   place-takes : (q : Place) → placeOf (head y) (y .table) n ≡ q → Takes (densed (head y) y n)
-  place-takes Absent e = let i = takes-page Absent e refl in page-takes Absent e i (lowest owner (head y .p) (i .there))
-  place-takes (Sparse r l) e = let i = takes-page (Sparse r l) e refl in page-takes (Sparse r l) e i (lowest owner (head y .p) (i .there))
+  place-takes Absent e = let i = takes-page Absent e refl in page-takes Absent e i (lowest (pageOwner (head y) (y .table)) (head y .p) (i .there))
+  place-takes (Sparse r l) e = let i = takes-page (Sparse r l) e refl in page-takes (Sparse r l) e i (lowest (pageOwner (head y) (y .table)) (head y .p) (i .there))
   place-takes (Dense p) e = subst Takes (sym (stays p e)) (turn-none y n)
 
   pub sofar-takes : Takes (densed (head y) y n)
