@@ -13,7 +13,8 @@ use Rattle.layout.specs.Mem.{Mem}
 use Rattle.layout.specs.Sizes.{modeAt, totalAt}
 use Rattle.layout.specs.Meaning.{ranked}
 use Rattle.layout.specs.Tests.{walked}
-use Rattle.cuts.specs.Plan.{boundsTo, cut, planBy}
+use Rattle.layout.proofs.Tests.{walked-of}
+use Rattle.cuts.specs.Plan.{Ready, boundsTo, cut, planBy}
 use Rattle.cuts.specs.Promise.{Plans}
 use Rattle.document.specs.declared.plan.Planning.{Planning}
 use Rattle.document.specs.declared.plan.Planning.the-variants.{Made, Refused}
@@ -41,6 +42,9 @@ module _ (x : Mem) (S : ℕ) (bs : List ℤ) where
     module _ (one : m ≡ 1) (t n : ℕ) (et : t ≡ totalAt (x .table)) (en : n ≡ parts t S) where
       is-ranked : ranked x ≡ true
       is-ranked = eq-eqb (modeAt (x .table)) 1 (sym em ∙ one)
+
+      pub is-ready : Ready x
+      is-ready = record { walks = walked-of x .sound (sym e ∙ y); mode = is-ranked }
 
       in-all : n ≡ parts (totalAt (x .table)) S
       in-all = en ∙ ap (λ (k : ℕ). parts k S) et

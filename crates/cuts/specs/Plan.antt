@@ -1,19 +1,18 @@
 -- Planning on any memory: a walk, the room, then a boundary at a time.
+use mathlib.Core.Path.{_≡_}
 use Prim.Native.Nat.{ℕ, zero, suc, _+_, _-_, _*_, _/_, _^_}
 use mathlib.Core.List.{List}
-use mathlib.Core.Bool.{Bool, cond}
+use mathlib.Core.Bool.{true, cond}
 use lib.IntN.{ℤ, pos}
 use lib.ListN.{length, set}
 use lib.Dec.{leb, ltb, eqb}
 use Rattle.sums.specs.Cuts.{size, parts}
 use Rattle.document.specs.Plan.{planOf}
 use Rattle.layout.specs.Mem.{Mem}
-use Rattle.layout.specs.Sizes.{modeAt, totalAt}
-use Rattle.layout.specs.Tests.{walked}
-use Rattle.document.specs.declared.answer.Amount.{Amount}
-use Rattle.document.specs.declared.answer.Amount.the-variants as amount
-use Rattle.ranks.specs.Rank.{rankBy}
-use Rattle.document.specs.declared.plan.Plan.{Plan}
+use Rattle.layout.specs.Sizes.{head, modeAt, totalAt}
+use Rattle.layout.specs.Meaning.{ranked}
+use Rattle.layout.specs.Tests.{Walked, walked}
+use Rattle.ranks.specs.Rank.{rankIn}
 use Rattle.document.specs.declared.plan.Planning.{Planning}
 use Rattle.document.specs.declared.plan.Planning.the-variants.{Made, Refused}
 
@@ -28,17 +27,14 @@ narrowIn (suc turns) f m lo hi =
 unfoldable pub narrowed : (ℕ → ℕ) → ℕ → ℕ → ℕ → ℕ
 narrowed f m lo hi = narrowIn (hi - lo) f m lo hi
 
--- the rank of id n; 0 where memory can't tell
-abbrev pub amountOf : Amount → ℕ
-amountOf (amount.Of k) = k
-amountOf (amount.Refused c) = 0
-
-unfoldable pub rankOf : Mem → ℕ → ℕ
-rankOf x n = amountOf (rankBy x (pos n))
+-- a ranked set that passed the walk: no rank of it is refused
+pub record Ready (x : Mem) : Type 0 where
+  pub walks : Walked x (head x)
+  pub mode : ranked x ≡ true
 
 -- the smallest id of 0 or more whose rank is at least m
 unfoldable pub boundaryBy : Mem → ℕ → ℕ
-boundaryBy x m = narrowed (rankOf x) m 0 (2 ^ 63 - 1)
+boundaryBy x m = narrowed (rankIn x) m 0 (2 ^ 63 - 1)
 
 -- boundaries 1 to k, in the first k places
 unfoldable pub boundsTo : Mem → ℕ → List ℤ → ℕ → List ℤ

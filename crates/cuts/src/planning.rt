@@ -3,7 +3,7 @@ ghost use mathlib.Core.Path.{_≡_};
 ghost use Prim.Native.Nat.{_*_, _^_, _<_};
 ghost use Rattle.sums.specs.Cuts.{size};
 ghost use Rattle.layout.specs.Mem.{memOf};
-ghost use Rattle.cuts.specs.Plan.{boundsTo};
+ghost use Rattle.cuts.specs.Plan.{Ready, boundsTo};
 ghost use Rattle.cuts.specs.Promise.{Plans};
 use crate::bound;
 use crate::round;
@@ -24,7 +24,7 @@ fn fill(
     n: u64,
     bounds: &mut [i64],
 )
-    requires { ⌜ n * size s < 2 ^ 64 ⌝ }
+    requires { ⌜ Ready (memOf pages rows blocks table) × (n * size s < 2 ^ 64) ⌝ }
     ensures { λ _. ⌜ (let x = memOf (pages .entry) (rows .entry) (blocks .entry) (table .entry) in
         now (bounds .exit) ≡ boundsTo x s (now (bounds .entry)) n) ⌝ }
 {

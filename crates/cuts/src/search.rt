@@ -3,7 +3,8 @@ ghost use mathlib.Core.Path.{_≡_};
 ghost use Prim.Native.Nat.{_^_, _≤_, _<_};
 ghost use lib.IntN.{pos};
 ghost use Rattle.layout.specs.Mem.{memOf};
-ghost use Rattle.cuts.specs.Plan.{narrowed, rankOf, boundaryBy};
+ghost use Rattle.ranks.specs.Rank.{rankIn};
+ghost use Rattle.cuts.specs.Plan.{narrowed, Ready, boundaryBy};
 use document::answer::Amount;
 use numbers::id;
 use ranked::rank;
@@ -11,14 +12,14 @@ use ranked::rank;
 // The largest id.
 const MOST_ID: u64 = 9223372036854775807;
 
-// The rank of id n; 0 where memory can't tell.
+// The rank of id n. After the walk none is refused: the second arm is never taken.
 fn rank_of(pages: &[u64], rows: &[u32], blocks: &[u32], table: &[u64], n: u64) -> u64
-    requires { ⌜ n < 2 ^ 63 ⌝ }
-    ensures { λ r. ⌜ r ≡ rankOf (memOf (pages .entry) (rows .entry) (blocks .entry) (table .entry)) n ⌝ }
+    requires { ⌜ Ready (memOf pages rows blocks table) × (n < 2 ^ 63) ⌝ }
+    ensures { λ r. ⌜ r ≡ rankIn (memOf (pages .entry) (rows .entry) (blocks .entry) (table .entry)) n ⌝ }
 {
     match rank::rank(pages, rows, blocks, table, id::signed(n)) {
         Amount::Of(k) => k,
-        Amount::Refused(_) => 0,
+        Amount::Refused(c) => c,
     }
 }
 
@@ -32,8 +33,8 @@ fn narrow(
     lo: u64,
     hi: u64,
 ) -> u64
-    requires { ⌜ (lo ≤ hi) × (hi < 2 ^ 63) ⌝ }
-    ensures { λ r. ⌜ r ≡ narrowed (rankOf (memOf (pages .entry) (rows .entry) (blocks .entry) (table .entry))) target lo hi ⌝ }
+    requires { ⌜ Ready (memOf pages rows blocks table) × (lo ≤ hi) × (hi < 2 ^ 63) ⌝ }
+    ensures { λ r. ⌜ r ≡ narrowed (rankIn (memOf (pages .entry) (rows .entry) (blocks .entry) (table .entry))) target lo hi ⌝ }
 {
     if hi <= lo {
         return lo;
@@ -47,6 +48,7 @@ fn narrow(
 
 // The smallest id of 0 or more whose rank is at least the target.
 pub fn boundary(pages: &[u64], rows: &[u32], blocks: &[u32], table: &[u64], target: u64) -> i64
+    requires { ⌜ Ready (memOf pages rows blocks table) ⌝ }
     ensures { λ z. ⌜ z ≡ pos (boundaryBy (memOf (pages .entry) (rows .entry) (blocks .entry) (table .entry)) target) ⌝ }
 {
     id::signed(narrow(pages, rows, blocks, table, target, 0, MOST_ID))

@@ -1,5 +1,6 @@
 pub mod Turns
 pub mod Seats
+pub mod AfterWalk
 pub mod Within
 pub mod Ranks
 pub mod Prefixes

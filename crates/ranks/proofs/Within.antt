@@ -1,13 +1,10 @@
 -- Members of one chunk below an offset: by a search in its row, or by one block count and the words of one block. Assumes nothing.
 use mathlib.Core.Path.{_≡_, refl, ap, _∙_}
 use mathlib.Core.List.{List}
-use mathlib.Core.Bool.{Bool, true, false, cond}
+use mathlib.Core.Bool.{Bool, true, false}
 use Prim.Native.Nat.{ℕ, _+_, _*_, _/_, _%_, _<_}
-use native.Mathlib.Nat.{mul-assoc}
 use native.Mathlib.Omega.{arith}
-use lib.ListN.{length, getD, take, drop}
-use lib.Dec.{ltb}
-use borrow.Author.Tests.{lt-ltb}
+use lib.ListN.{take, drop}
 use Rattle.sparse.specs.Row.{rowOf, member, belowOf}
 use Rattle.sparse.specs.Search.{placeIf}
 use Rattle.sparse.proofs.Searches.{lower-rising, search-rising}
@@ -15,20 +12,19 @@ use Rattle.dense.specs.Bits.{bitsTo}
 use Rattle.dense.proofs.Parts.{bits-part}
 use Rattle.layout.specs.Mem.{Mem}
 use Rattle.document.specs.Sizes.{top}
-use Rattle.layout.specs.Sizes.{wide, blocksOf, head}
+use Rattle.layout.specs.Sizes.{blocksOf, head}
 use Rattle.layout.specs.Places.{rowPart, pagePart}
 use Rattle.layout.specs.Meaning.{offsets, ranked}
 use Rattle.layout.specs.Follows.{Owned, RowListed, Follows}
-use Rattle.document.specs.declared.answer.Amount.the-variants as amount
 use Rattle.layout.specs.declared.place.Place.{Place}
 use Rattle.layout.specs.declared.place.Place.the-variants.{Absent, Sparse, Dense}
 use Rattle.layout.specs.Short.{spotOn}
 use Rattle.layout_laws.specs.Chunks as chunk
-use Rattle.layout_laws.proofs.Sizes.{blocks-wide, blocks-top, slot-inside}
+use Rattle.layout_laws.proofs.Sizes.{blocks-top}
 use Rattle.layout_laws.proofs.Members.{listed-rising}
 use Rattle.layout_laws.proofs.Ranks.{block-rank}
 use Rattle.calls.specs.Reading.{isFound}
-use Rattle.ranks.specs.Rank.{belowAt, inPage, hasSpot}
+use Rattle.ranks.specs.Rank.{hasSpot, belowPlace}
 
 -- below o: those before its block of eight words, and those within it
 pub block-split : (ws : List ℕ) (o : ℕ) → bitsTo ws (512 * (o / 512)) + bitsTo (take 8 (drop (o / 512 * 8) ws)) (o % 512) ≡ bitsTo ws o
@@ -44,24 +40,15 @@ found-if : (b : Bool) (i : ℕ) → isFound (placeIf b i) ≡ b
 found-if true i = refl
 found-if false i = refl
 
-module _ {x : Mem} (w : Follows x) (r : ranked x ≡ true) (c o : ℕ) (l : o < top (head x)) where
-  page-below : (p : ℕ) → p < head x .p → inPage x (p * wide (head x)) (wide (head x)) o ≡ amount.Of (bitsTo (pagePart (head x) (x .pages) p) o)
-  page-below p m =
-      let a = blocks-wide (head x) (w .sizes) in
+module _ {x : Mem} (w : Follows x) (r : ranked x ≡ true) (o : ℕ) (l : o < top (head x)) where
+  pub below-is : (c : ℕ) (p : Place) → Owned (head x) (x .table) c p → RowListed (head x) (x .rows) p → belowPlace x o p ≡ chunk.belowIn (head x) x p o
+  below-is c Absent u v = refl
+  below-is c (Sparse i n) u v = lower-rising (rowPart (head x) (x .rows) i) n (listed-rising (head x) (rowPart (head x) (x .rows) i) n v) o
+  below-is c (Dense p) u v =
       let b = blocks-top (head x) (w .sizes) in
       let n : o / 512 < blocksOf (head x) = omega arith in
-      let e : p * wide (head x) / 8 ≡ p * blocksOf (head x) = omega (arith, mul-assoc p (blocksOf (head x)) 8, ap (λ (k : ℕ). p * k) a) in
-      let i = w .room .in-blocks in
-      let s = slot-inside p (head x .p) (blocksOf (head x)) m in
       let block = bitsTo (take 8 (drop (o / 512 * 8) (pagePart (head x) (x .pages) p))) (o % 512) in
-      ap (λ (k : ℕ). cond (ltb (k + o / 512) (length (x .blocks))) (amount.Of (getD (x .blocks) (k + o / 512) 0 + block)) (amount.Refused 3)) e
-      ∙ ap (λ (t : Bool). cond t (amount.Of (getD (x .blocks) (p * blocksOf (head x) + o / 512) 0 + block)) (amount.Refused 3)) (lt-ltb (p * blocksOf (head x) + o / 512) (length (x .blocks)) (omega arith))
-      ∙ ap amount.Of (ap (λ (k : ℕ). k + block) (block-rank w r p (o / 512) m n) ∙ block-split (pagePart (head x) (x .pages) p) o)
-
-  pub below-is : (p : Place) → Owned (head x) (x .table) c p → RowListed (head x) (x .rows) p → belowAt x o (spotOn (head x) p) ≡ amount.Of (chunk.belowIn (head x) x p o)
-  below-is Absent u v = refl
-  below-is (Sparse i n) u v = ap amount.Of (lower-rising (rowPart (head x) (x .rows) i) n (listed-rising (head x) (rowPart (head x) (x .rows) i) n v) o)
-  below-is (Dense p) u v = page-below p (u .there)
+      ap (λ (k : ℕ). k + block) (block-rank w r p (o / 512) (u .there) n) ∙ block-split (pagePart (head x) (x .pages) p) o
 
 -- whether an offset is there
 pub has-is : (x : Mem) (o : ℕ) (p : Place) → RowListed (head x) (x .rows) p → hasSpot x o (spotOn (head x) p) ≡ offsets (head x) x p o

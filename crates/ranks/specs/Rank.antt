@@ -11,7 +11,10 @@ use Rattle.numbers.specs.declared.Split.the-variants as split
 use Rattle.sparse.specs.Search.{lowerOf, searchIn}
 use Rattle.dense.specs.Bits.{bitsTo, isSet}
 use Rattle.layout.specs.Mem.{Mem}
-use Rattle.layout.specs.Sizes.{modeAt, totalAt}
+use Rattle.document.specs.Sizes.{top}
+use Rattle.layout.specs.Sizes.{blocksOf, head, modeAt, totalAt}
+use Rattle.layout.specs.Places.{rowPart, pagePart}
+use Rattle.layout.specs.Entries.{placeOf}
 use Rattle.layout.specs.Seat.{seatIn}
 use Rattle.document.specs.declared.answer.Amount.{Amount}
 use Rattle.document.specs.declared.answer.Amount.the-variants as amount
@@ -21,6 +24,9 @@ use Rattle.layout.specs.declared.seat.Seat.{Seat}
 use Rattle.layout.specs.declared.seat.Seat.the-variants as seat
 use Rattle.layout.specs.declared.find.Spot.{Spot}
 use Rattle.layout.specs.declared.find.Spot.the-variants.{Nowhere, Row, Page, Bad}
+use Rattle.layout.specs.declared.place.Place.{Place}
+use Rattle.layout.specs.declared.place.Place.the-variants.{Absent, Sparse, Dense}
+use Rattle.layout_laws.specs.Chunks.{firstRank}
 use Rattle.calls.specs.Reading.{shiftOk, spotBy, isFound}
 
 -- members of a page below offset o: those before its block, and those within the block of eight words
@@ -56,6 +62,16 @@ ifRanked t refuse a = cond (shiftOk t && leb (modeAt t) 1) (cond (eqb (modeAt t)
 
 unfoldable pub rankBy : Mem → ℤ → Amount
 rankBy x z = ifRanked (x .table) amount.Refused (rankSplit x (splitOf (getD (x .table) 0 0) z))
+
+-- a ranked set that passed the walk always answers: the members of the chunks before, and by its place those of the chunk
+abbrev pub belowPlace : Mem → ℕ → Place → ℕ
+belowPlace x o Absent = 0
+belowPlace x o (Sparse r l) = lowerOf (rowPart (head x) (x .rows) r) l o
+belowPlace x o (Dense p) =
+    getD (x .blocks) (p * blocksOf (head x) + o / 512) 0 + bitsTo (take 8 (drop (o / 512 * 8) (pagePart (head x) (x .pages) p))) (o % 512)
+
+unfoldable pub rankIn : Mem → ℕ → ℕ
+rankIn x n = firstRank x (n / top (head x)) + belowPlace x (n % top (head x)) (placeOf (head x) (x .table) (n / top (head x)))
 
 -- `rank_if_set`: is it there, and then where
 abbrev pub hasSpot : Mem → ℕ → Spot → Bool

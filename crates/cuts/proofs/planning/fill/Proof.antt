@@ -28,10 +28,10 @@ add-boundary : tie.Need-add-boundary Inv-loop μ-loop
 add-boundary c = record { fits = omega arith }
 
 mul-boundary : tie.Need-mul-boundary Inv-loop μ-loop
-mul-boundary c = let a = c .before .before .before .before .before .before .before .args in target-fits _ (a .n) (a .s) _ (c .loop-test .taken) (c .before .before .greatest-of .ensures) (c .before .before .before .before .before .before .before .pre)
+mul-boundary c = let a = c .before .before .before .before .before .before .before .args in target-fits _ (a .n) (a .s) _ (c .loop-test .taken) (c .before .before .greatest-of .ensures) (c .before .before .before .before .before .before .before .pre .1)
 
 boundary-requires : tie.Need-boundary-requires Inv-loop μ-loop
-boundary-requires c κs = search needs
+boundary-requires c κs = c .before .before .before .before .before .before .before .pre .0
 
 put-requires : tie.Need-put-requires Inv-loop μ-loop
 put-requires c κs = search needs

@@ -1,7 +1,7 @@
 -- Tests in document 01's order, then the boundaries. Assumes nothing.
 use borrow.Author.Tests.{not-true, not-false}
 use Rattle.layout.specs.Mem.{memOf}
-use Rattle.cuts.proofs.Outcomes.{last-fits, leaves-bad, leaves-open, leaves-short, leaves-made}
+use Rattle.cuts.proofs.Outcomes.{last-fits, is-ready, leaves-bad, leaves-open, leaves-short, leaves-made}
 use borrow.Author.Needs.{needs}
 use Rattle.cuts.proofs.planning.plan.Statement.{statement}
 use Rattle.cuts.proofs.planning.plan.Tie as tie
@@ -34,7 +34,13 @@ sub-fill : tie.Need-sub-fill
 sub-fill c = search needs
 
 fill-requires : tie.Need-fill-requires
-fill-requires c κs = last-fits _ _ _ (c .before .before .parts .ensures) (c .before .before .before .at2 .ok)
+fill-requires c κs =
+    let a = c .before .before .before .before .before .before .before .before .before .before .before .before .args in (
+      is-ready (memOf (a .pages) (a .rows) (a .blocks) (a .table)) (a .s) (a .bounds .now) _ (c .before .before .before .before .before .before .before .walk .ensures)
+          (not-false _ (c .before .before .before .before .before .before .if1 .left)) _ (c .before .before .before .before .before .at .ensures)
+          (c .before .before .before .before .if2 .left) _ _ (c .before .before .before .at2 .ensures) (c .before .before .parts .ensures),
+      last-fits _ _ _ (c .before .before .parts .ensures) (c .before .before .before .at2 .ok),
+    )
 
 greatest-of-requires : tie.Need-greatest-of-requires
 greatest-of-requires c κs = search needs
