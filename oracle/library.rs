@@ -42,13 +42,30 @@ const SPARE: usize = 3;
 const MARK: u32 = 0x5a5a_5a5a;
 
 /// The last `kept` elements of each are not lent: no call may touch them, whatever memory holds.
-#[derive(Clone, PartialEq)]
+#[derive(PartialEq)]
 pub struct Memory {
     pub pages: Vec<u64>,
     pub rows: Vec<u32>,
     pub blocks: Vec<u32>,
     pub table: Vec<u64>,
     pub kept: usize,
+}
+
+/// A copy into memory that is there already takes its place without a new allocation.
+impl Clone for Memory {
+    fn clone(&self) -> Memory {
+        let mut copy = Memory::marked([0; 4]);
+        copy.clone_from(self);
+        copy
+    }
+
+    fn clone_from(&mut self, from: &Memory) {
+        self.pages.clone_from(&from.pages);
+        self.rows.clone_from(&from.rows);
+        self.blocks.clone_from(&from.blocks);
+        self.table.clone_from(&from.table);
+        self.kept = from.kept;
+    }
 }
 
 macro_rules! entries {

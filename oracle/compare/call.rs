@@ -63,12 +63,14 @@ impl Call {
         }
     }
 
-    /// Whether an accepted call may change lent memory.
+    /// Whether the call is given a set's memory at all.
+    pub fn of_a_set(&self) -> bool {
+        !matches!(self, Call::Part { .. } | Call::Slots(_) | Call::Bounded(..))
+    }
+
+    /// Whether an accepted call may change a set's memory. Planning writes boundaries alone.
     pub fn writes(&self) -> bool {
-        matches!(
-            self,
-            Call::SetUp(_) | Call::Set(_) | Call::New(_) | Call::Put(_) | Call::Prepare(_) | Call::RankUp | Call::Open | Call::Plan { .. }
-        )
+        matches!(self, Call::SetUp(_) | Call::Set(_) | Call::New(_) | Call::Put(_) | Call::Prepare(_) | Call::RankUp | Call::Open)
     }
 }
 
@@ -82,7 +84,17 @@ pub enum Said {
     Nothing,
     Refused(u64),
     Planned(Record, Vec<i64>),
-    Part { low: i64, high: Option<i64>, first: u64, count: u64 },
+    /// What `ids` and `ranks` say of a partition.
+    Part { ids: Result<(i64, Option<i64>), u64>, ranks: Result<(u64, u64), u64> },
+}
+
+impl Said {
+    pub fn refusal(&self) -> Option<u64> {
+        match *self {
+            Said::Refused(c) | Said::Part { ids: Err(c), .. } => Some(c),
+            _ => None,
+        }
+    }
 }
 
 impl fmt::Display for Said {
@@ -99,7 +111,9 @@ impl fmt::Display for Said {
                 write!(f, "{} {} {}", r.total, r.slots, r.partitions)?;
                 bounds.iter().try_for_each(|b| write!(f, " {b}"))
             }
-            Said::Part { low, high, first, count } => {
+            // as replay says it: where both answer, else what `ids` refuses with
+            Said::Part { ids: Err(c), .. } | Said::Part { ranks: Err(c), .. } => write!(f, "refused {c}"),
+            Said::Part { ids: Ok((low, high)), ranks: Ok((first, count)) } => {
                 if *low == i64::MIN { write!(f, "min")? } else { write!(f, "{low}")? }
                 if let Some(h) = high { write!(f, " {h}")? } else { write!(f, " end")? }
                 write!(f, " {first} {count}")

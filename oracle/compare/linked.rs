@@ -1,4 +1,4 @@
-//! The library linked through `exports`: each call is compared at once, memory after each refusal, elements past the sizes at the end.
+//! The library linked through `exports`: each call is compared at once, memory after each refusal and each plan, elements past the sizes at the end.
 use crate::call::{Call, Record, Said, Sizes};
 use crate::library::{Answer, Memory};
 use crate::locations;
@@ -8,6 +8,9 @@ use crate::script::Way;
 
 struct Set {
     memory: Memory,
+    /// Memory as the last accepted writing call left it, once it has been asked for.
+    before: Memory,
+    known: bool,
     bounds: Vec<i64>,
     /// How much of each slice an accepted set-up needed, at most.
     used: [usize; 4],
@@ -94,13 +97,21 @@ impl Set {
     fn part(&mut self, p: Record, room: usize, k: u64) -> Said {
         let i = planning::ids(p, &self.bounds[..room], k);
         let r = planning::ranks(p, k);
-        if i.kind == 2 {
-            return Said::Refused(i.refusal);
+        assert!(i.kind <= 2 && (1..=2).contains(&r.kind), "an answer of no known kind");
+        let ids = if i.kind == 2 { Err(i.refusal) } else { Ok((i.low, (i.kind == 1).then_some(i.high))) };
+        let ranks = if r.kind == 2 { Err(r.refusal) } else { Ok((r.first, r.count)) };
+        if let Ok((low, high)) = ids {
+            intervals_agree(low, high);
         }
-        assert_eq!(r.kind, 1, "ranks refused where ids answered");
-        let high = (i.kind == 1).then_some(i.high);
-        intervals_agree(i.low, high);
-        Said::Part { low: i.low, high, first: r.first, count: r.count }
+        Said::Part { ids, ranks }
+    }
+
+    /// Memory is taken down, unless nothing was written since that was done last.
+    fn take_down(&mut self) {
+        if !self.known {
+            self.before.clone_from(&self.memory);
+            self.known = true;
+        }
     }
 }
 
@@ -131,17 +142,23 @@ impl Way for Linked {
 
     fn begin(&mut self) -> bool {
         let lent = self.lends(self.sizes);
-        self.sets = (0..2).map(|_| Set { memory: Memory::marked(lent), bounds: vec![-7; BOUNDARIES], used: [0; 4] }).collect();
+        let set = |_| Set { memory: Memory::marked(lent), before: Memory::marked([0; 4]), known: false, bounds: vec![-7; BOUNDARIES], used: [0; 4] };
+        self.sets = (0..2).map(set).collect();
         true
     }
 
     fn call(&mut self, k: usize, call: &Call, wanted: &Said) {
         let set = &mut self.sets[k];
-        let stays = matches!(wanted, Said::Refused(_)) || (!call.writes() && self.sizes.s < 12);
-        let before = stays.then(|| set.memory.clone());
+        let stays = !call.writes() || wanted.refusal().is_some();
+        // where memory is large, other reading calls are compared with the next refusal or plan
+        let compared = stays && call.of_a_set() && (self.sizes.s < 12 || wanted.refusal().is_some() || matches!(call, Call::Plan { .. }));
+        if compared {
+            set.take_down();
+        }
         let said = set.answer(call);
-        assert!(said == *wanted, "{}\nwanted {wanted}\nsaid   {said}", call.line(k));
-        assert!(before.is_none_or(|before| before == set.memory), "{}: memory is not as it was", call.line(k));
+        assert!(said == *wanted, "{}\nwanted {wanted}\nsaid   {said}\n({wanted:?}, {said:?})", call.line(k));
+        assert!(!compared || set.before == set.memory, "{}: memory is not as it was", call.line(k));
+        set.known &= stays;
         if let (Call::SetUp(z), Said::Ok) = (call, &said) {
             for (used, needs) in set.used.iter_mut().zip(z.needs()) {
                 *used = needs.max(*used);

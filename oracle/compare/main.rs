@@ -1,5 +1,6 @@
 //! Compares the library with the Rust, at the sizes that the Rust was built for. After the sizes s m D V R P and a seed comes a way to reach the library:
-//! `linked SEQUENCES LENGTH`, `piped SEQUENCES LENGTH PROGRAM..`, `listed SEQUENCES LENGTH CALLS ANSWERS` (writes the answers down),
+//! `linked SEQUENCES LENGTH`, `held SEQUENCES LENGTH` (linked, and every set-up with these sizes), `piped SEQUENCES LENGTH PROGRAM..`,
+//! `listed SEQUENCES LENGTH CALLS ANSWERS` (writes the answers down),
 //! or `linked-all DEPTH`, `piped-all DEPTH PROGRAM..`: every sequence of so many calls.
 mod call;
 #[allow(dead_code, clippy::all)]
@@ -16,6 +17,7 @@ mod planning;
 mod room;
 mod rust;
 mod script;
+mod tally;
 
 use call::{Call, Sizes};
 use script::{Script, Way};
@@ -65,13 +67,13 @@ fn main() {
     let z = Sizes { s: number(0), m: number(1), d: number(2), v: number(3), r: number(4), p: number(5) };
     let (seed, way) = (number(6), words[7].as_str());
     let mut reached: Box<dyn Way> = match way {
-        "linked" | "linked-all" => Box::new(linked::Linked::new(z)),
+        "linked" | "held" | "linked-all" => Box::new(linked::Linked::new(z)),
         "piped" => Box::new(piped::Piped::new(words[10..].to_vec())),
         "piped-all" => Box::new(piped::Piped::new(words[9..].to_vec())),
         "listed" => Box::new(listed::Listed::new(&words[10], &words[11])),
         _ => panic!("no way to reach the library: {way}"),
     };
-    let mut script = Script::new(&mut *reached, z, seed);
+    let mut script = Script::new(&mut *reached, z, way == "held", seed);
     if way.ends_with("-all") {
         all_short(&mut script, z, number(8) as u32);
     } else {
@@ -79,8 +81,6 @@ fn main() {
     }
     let t = script.tally;
     drop(reached);
-    println!(
-        "{way}: s {} m {} D {} V {} R {} P {}: {} sequences, {} calls equal, {} of them refusals",
-        z.s, z.m, z.d, z.v, z.r, z.p, t.sequences, t.calls, t.refusals
-    );
+    assert!(way != "held" || t.promotions.iter().all(|&n| n >= t.sequences), "at sizes that are held a direct and an overflow chunk become dense in each sequence");
+    println!("{way}: s {} m {} D {} V {} R {} P {}: {t}", z.s, z.m, z.d, z.v, z.r, z.p);
 }

@@ -11,20 +11,36 @@ pub const POOLS: [usize; 4] = [8192, 4096, 1024, 1024];
 /// Lines after which a run of the program ends with the sequence.
 const RUN: usize = 50_000;
 
+/// What is to come back for a line.
+enum Wanted {
+    Answer(String),
+    /// Any dump of this set, for the next one to be held against.
+    Dump(usize),
+    /// The last dump of this set, but for so many boundaries that a plan wrote.
+    Same(usize, usize),
+}
+
 pub struct Piped {
     program: Vec<String>,
     lines: Vec<String>,
-    /// The answer to each line; none where only equality with the answer before the call counts.
-    wanted: Vec<Option<String>>,
+    wanted: Vec<Wanted>,
+    /// Whether nothing was written to the set since its last dump.
+    known: [bool; 2],
+}
+
+/// A dump without its first boundaries: elements are words such as t0=9, those of boundaries begin with c.
+fn without(dump: &str, boundaries: usize) -> String {
+    let number = |word: &str| word.strip_prefix('c').and_then(|w| w.split_once('=')).map(|(n, _)| n.parse::<usize>().expect("a number"));
+    dump.split(' ').filter(|word| number(word).is_none_or(|n| n >= boundaries)).collect::<Vec<_>>().join(" ")
 }
 
 impl Piped {
     /// `program` is the command that runs it, word by word.
     pub fn new(program: Vec<String>) -> Piped {
-        Piped { program, lines: Vec::new(), wanted: Vec::new() }
+        Piped { program, lines: Vec::new(), wanted: Vec::new(), known: [false; 2] }
     }
 
-    fn push(&mut self, line: String, wanted: Option<String>) {
+    fn push(&mut self, line: String, wanted: Wanted) {
         self.lines.push(line);
         self.wanted.push(wanted);
     }
@@ -46,20 +62,20 @@ impl Piped {
         assert!(child.wait().expect("the program replay").success());
         self.lines.clear();
         self.wanted.clear();
+        self.known = [false; 2];
     }
 
     fn read(&self, from: BufReader<ChildStdout>) {
         let mut answers = from.lines().map(|l| l.expect("a line"));
-        let mut dumped = String::new();
+        let mut dumped = [String::new(), String::new()];
         for (i, line) in self.lines.iter().enumerate() {
             let said = answers.next().unwrap_or_else(|| panic!("no answer to line {i}: {line}"));
             match &self.wanted[i] {
-                Some(wanted) => assert!(said == *wanted, "line {i}: {line}\nwanted {wanted}\nsaid   {said}"),
-                // of two dumps around a refused call the second has to be the first
-                None if dumped.is_empty() => dumped = said + "!",
-                None => {
-                    assert!(dumped == said + "!", "line {i}: a refused call changed memory");
-                    dumped.clear();
+                Wanted::Answer(wanted) => assert!(said == *wanted, "line {i}: {line}\nwanted {wanted}\nsaid   {said}"),
+                &Wanted::Dump(k) => dumped[k] = said,
+                &Wanted::Same(k, but) => {
+                    assert!(without(&dumped[k], but) == without(&said, but), "line {}: {} changed memory", i - 1, self.lines[i - 1]);
+                    dumped[k] = said;
                 }
             }
         }
@@ -78,14 +94,19 @@ impl Way for Piped {
     }
 
     fn call(&mut self, k: usize, call: &Call, wanted: &Said) {
-        let refused = matches!(wanted, Said::Refused(_)) && call.writes();
-        if refused {
-            self.push(format!("dump {k}"), None);
+        let refused = wanted.refusal().is_some();
+        let stays = match wanted {
+            Said::Planned(_, bounds) => Some(bounds.len()),
+            _ => (refused && (call.writes() || matches!(call, Call::Plan { .. }))).then_some(0),
+        };
+        if stays.is_some() && !self.known[k] {
+            self.push(format!("dump {k}"), Wanted::Dump(k));
         }
-        self.push(call.line(k), Some(wanted.to_string()));
-        if refused {
-            self.push(format!("dump {k}"), None);
+        self.push(call.line(k), Wanted::Answer(wanted.to_string()));
+        if let Some(boundaries) = stays {
+            self.push(format!("dump {k}"), Wanted::Same(k, boundaries));
         }
+        self.known[k] = stays.is_some() || (self.known[k] && (refused || !call.writes()));
     }
 
     fn end(&mut self) {

@@ -1,17 +1,21 @@
 //! Which of the refusals 6, 7 and 8 document 01 gives, from its words alone: kinds by chunk id, counted on the state after the call.
 use crate::call::Sizes;
+use crate::tally::Tally;
 use std::collections::{BTreeMap, BTreeSet};
 
-#[derive(Clone, Default)]
+#[derive(Default)]
 struct Chunk {
     dense: bool,
+    /// Of a sparse chunk: its row, the lowest that was free.
+    row: u64,
     offsets: BTreeSet<u64>,
 }
 
-#[derive(Clone)]
 pub struct Room {
     sizes: Sizes,
     chunks: BTreeMap<u64, Chunk>,
+    /// Rows that a promotion freed and that no chunk has taken since.
+    freed: BTreeSet<u64>,
 }
 
 /// Chunks with an overflow entry, sparse ones, dense ones.
@@ -24,7 +28,7 @@ struct Needs {
 
 impl Room {
     pub fn new(sizes: Sizes) -> Room {
-        Room { sizes, chunks: BTreeMap::new() }
+        Room { sizes, chunks: BTreeMap::new(), freed: BTreeSet::new() }
     }
 
     fn split(&self, id: i64) -> Option<(u64, u64)> {
@@ -51,8 +55,33 @@ impl Room {
         }
     }
 
+    /// The chunk, which is sparse; a new one takes the lowest free row.
+    fn sparse_chunk(&mut self, c: u64, tally: &mut Tally) -> &mut Chunk {
+        let taken: BTreeSet<u64> = self.chunks.values().filter(|k| !k.dense).map(|k| k.row).collect();
+        self.chunks.entry(c).or_insert_with(|| {
+            let row = (0..).find(|r| !taken.contains(r)).expect("a free row");
+            tally.rows_again += u64::from(self.freed.remove(&row));
+            Chunk { row, ..Chunk::default() }
+        })
+    }
+
+    /// The chunk, dense; a sparse one leaves its row.
+    fn dense_chunk(&mut self, c: u64, tally: &mut Tally) -> &mut Chunk {
+        if let Some(k) = self.chunks.get(&c).filter(|k| !k.dense) {
+            self.freed.insert(k.row);
+            tally.promotions[usize::from(c >= self.sizes.d)] += 1;
+        }
+        let k = self.chunks.entry(c).or_default();
+        k.dense = true;
+        k
+    }
+
+    pub fn in_dense_overflow(&self, id: i64) -> bool {
+        self.split(id).is_some_and(|(c, _)| c >= self.sizes.d && self.chunks.get(&c).is_some_and(|k| k.dense))
+    }
+
     /// Takes the id in, or says the refusal.
-    pub fn insert(&mut self, id: i64) -> Result<(), u64> {
+    pub fn insert(&mut self, id: i64, tally: &mut Tally) -> Result<(), u64> {
         let Some((c, o)) = self.split(id) else { return Ok(()) };
         let (dense, members) = self.chunks.get(&c).map_or((false, 0), |k| (k.dense, k.offsets.len() as u64));
         if self.chunks.get(&c).is_some_and(|k| k.offsets.contains(&o)) {
@@ -64,9 +93,8 @@ impl Room {
         n.dense += u64::from(dense);
         n.sparse += u64::from(!dense);
         self.verdict(n)?;
-        let chunk = self.chunks.entry(c).or_default();
+        let chunk = if dense { self.dense_chunk(c, tally) } else { self.sparse_chunk(c, tally) };
         chunk.offsets.insert(o);
-        chunk.dense = dense;
         Ok(())
     }
 
@@ -80,13 +108,13 @@ impl Room {
     }
 
     /// Makes every chunk from 0 to the maximum's dense, or says the refusal, by arithmetic alone.
-    pub fn prepare(&mut self, max: i64) -> Result<(), u64> {
+    pub fn prepare(&mut self, max: i64, tally: &mut Tally) -> Result<(), u64> {
         let Some((last, _)) = self.split(max) else { return Ok(()) };
         let mut n = self.others(|other| other > last);
         n.over += (last + 1).saturating_sub(self.sizes.d);
         n.dense += last + 1;
         self.verdict(n)?;
-        (0..=last).for_each(|c| self.chunks.entry(c).or_default().dense = true);
+        (0..=last).for_each(|c| _ = self.dense_chunk(c, tally));
         Ok(())
     }
 }

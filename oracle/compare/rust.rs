@@ -3,6 +3,7 @@ use crate::call::{Call, Record, Said, Sizes};
 use crate::idset::{IdSet, RankedIdSet};
 use crate::locations;
 use crate::room::Room;
+use crate::tally::Tally;
 
 pub const BOUNDARIES: usize = 256;
 
@@ -32,19 +33,6 @@ fn done(r: Result<(), u64>) -> Said {
     r.map_or_else(Said::Refused, |()| Said::Ok)
 }
 
-impl Clone for Side {
-    fn clone(&self) -> Side {
-        Side {
-            lent: self.lent,
-            room: self.room.clone(),
-            set: copied(&self.set),
-            ranked: self.ranked.as_ref().map(|_| copied(&self.set).into_ranked()),
-            bounds: self.bounds.clone(),
-            planned: self.planned.clone(),
-        }
-    }
-}
-
 impl Side {
     pub fn new(lent: [usize; 4]) -> Side {
         Side { lent, room: None, set: IdSet::new(), ranked: None, bounds: vec![0; BOUNDARIES], planned: None }
@@ -59,11 +47,11 @@ impl Side {
     }
 
     /// The answer, and this side changed as the call changes it.
-    pub fn answer(&mut self, call: &Call) -> Said {
+    pub fn answer(&mut self, call: &Call, tally: &mut Tally) -> Said {
         match *call {
             Call::SetUp(z) => self.set_up(z),
             Call::Check => Said::Yes(self.room.is_some()),
-            Call::Part { record, room, k } => self.part(record, room, k),
+            Call::Part { record, room, k } => self.part(record, room, k, tally),
             Call::Slots(b) => Said::Number(locations::slots_for_budget(b)),
             Call::Bounded(claim, length, per) => Said::Signed(IdSet::file_bounded_max_id(claim, length, per)),
             _ if self.room.is_none() => Said::Refused(3),
@@ -73,8 +61,8 @@ impl Side {
             Call::Empty => Said::Truth(self.set.is_empty()),
             Call::Has => Said::Truth(self.set.has_any()),
             Call::Chunk(id) => IdSet::chunk_of(id).map_or(Said::Nothing, Said::Number),
-            Call::Set(_) | Call::New(_) | Call::Put(_) | Call::Prepare(_) | Call::RankUp => self.open_call(call),
-            Call::Open | Call::Rank(_) | Call::RankIf(_) | Call::Total | Call::Plan { .. } => self.ranked_call(call),
+            Call::Set(_) | Call::New(_) | Call::Put(_) | Call::Prepare(_) | Call::RankUp => self.open_call(call, tally),
+            Call::Open | Call::Rank(_) | Call::RankIf(_) | Call::Total | Call::Plan { .. } => self.ranked_call(call, tally),
         }
     }
 
@@ -96,16 +84,16 @@ impl Side {
         open
     }
 
-    fn open_call(&mut self, call: &Call) -> Said {
+    fn open_call(&mut self, call: &Call, tally: &mut Tally) -> Said {
         let (Some(room), None) = (&mut self.room, &self.ranked) else { return Said::Refused(4) };
         match *call {
-            Call::New(id) => told(room.insert(id).map(|()| self.set.set_if_new(id))),
-            Call::Set(id) => done(room.insert(id).map(|()| self.set.set(id))),
+            Call::New(id) => told(room.insert(id, tally).map(|()| self.set.set_if_new(id))),
+            Call::Set(id) => done(room.insert(id, tally).map(|()| self.set.set(id))),
             Call::Put(id) => {
                 let wanted = room.prepared(id);
                 told(wanted.and_then(|_| self.put(id)).or_else(|c| self.set.set_atomic_if_new_checked(id).ok_or(c)))
             }
-            Call::Prepare(max) => done(room.prepare(max).map(|()| self.set.pre_allocate(max))),
+            Call::Prepare(max) => done(room.prepare(max, tally).map(|()| self.set.pre_allocate(max))),
             _ => {
                 self.ranked = Some(copied(&self.set).into_ranked());
                 Said::Ok
@@ -121,20 +109,24 @@ impl Side {
         Ok(new)
     }
 
-    fn ranked_call(&mut self, call: &Call) -> Said {
-        let Some(ranked) = &self.ranked else { return Said::Refused(5) };
+    fn ranked_call(&mut self, call: &Call, tally: &mut Tally) -> Said {
+        let (Some(room), Some(ranked)) = (&self.room, &self.ranked) else { return Said::Refused(5) };
+        if let Call::Rank(id) | Call::RankIf(id) = *call {
+            tally.overflow_ranks += u64::from(room.in_dense_overflow(id));
+        }
         match *call {
             Call::Rank(id) => Said::Number(ranked.rank(id)),
             Call::RankIf(id) => ranked.rank_if_set(id).map_or(Said::Nothing, Said::Number),
             Call::Total => Said::Number(ranked.total_count()),
-            Call::Plan { slots, room } => {
+            Call::Plan { slots, room: boundaries } => {
                 let total = ranked.total_count();
                 let partitions = total.div_ceil(slots.max(1)).max(1);
-                if partitions - 1 > room {
+                if partitions - 1 > boundaries {
                     return Said::Refused(11);
                 }
                 let (bounds, parts) = locations::planned(ranked, slots);
                 let record = Record { total, slots: slots.max(1), partitions: parts.len() as u64 };
+                tally.several_boundaries += u64::from(bounds.len() > 1);
                 self.bounds[..bounds.len()].copy_from_slice(&bounds);
                 self.planned = Some((record, parts));
                 Said::Planned(record, bounds)
@@ -146,21 +138,23 @@ impl Side {
         }
     }
 
-    /// Of the last plan what the Rust says; of any other record what document 01 says.
-    fn part(&self, p: Record, room: u64, k: u64) -> Said {
-        if p.slots == 0 || p.partitions != p.total.div_ceil(p.slots).max(1) || p.partitions - 1 > room {
-            return Said::Refused(3);
-        }
-        if k >= p.partitions {
-            return Said::Refused(12);
-        }
+    /// Of the last plan what the Rust says; of any other record what document 01 says. `ranks` is not given the boundaries.
+    fn part(&self, p: Record, room: u64, k: u64, tally: &mut Tally) -> Said {
+        let judged = |fits: bool| match () {
+            _ if p.slots == 0 || p.partitions != p.total.div_ceil(p.slots).max(1) || !fits => Err(3),
+            _ if k >= p.partitions => Err(12),
+            _ => Ok(()),
+        };
         let at = k as usize;
-        let low = if at == 0 { i64::MIN } else { self.bounds[at - 1] };
-        let high = (k + 1 < p.partitions).then(|| self.bounds[at]);
-        let (first, count) = (k * p.slots, p.slots.min(p.total - k * p.slots));
+        let low = || if at == 0 { i64::MIN } else { self.bounds[at - 1] };
+        let high = || (k + 1 < p.partitions).then(|| self.bounds[at]);
+        let ids = judged(p.partitions <= room + 1).map(|()| (low(), high()));
+        let ranks = judged(true).map(|()| (k * p.slots, p.slots.min(p.total - k * p.slots)));
         if let Some((_, parts)) = self.planned.as_ref().filter(|q| q.0 == p) {
-            assert_eq!(parts[at], (low, high, first, count), "the Rust's partition is another one");
+            assert!(ids.is_err() || ids == Ok((parts[at].0, parts[at].1)), "the Rust's partition has other ends");
+            assert!(ranks.is_err() || ranks == Ok((parts[at].2, parts[at].3)), "the Rust's partition has other ranks");
         }
-        Said::Part { low, high, first, count }
+        tally.ranks_alone += u64::from(ids.is_err() && ranks.is_ok());
+        Said::Part { ids, ranks }
     }
 }

@@ -1,6 +1,7 @@
 //! Sequences of calls on two sets: each call goes to the Rust's side for its answer, then to the library for comparison.
 use crate::call::{Call, Record, Said, Sizes};
 use crate::rust::{BOUNDARIES, Side};
+use crate::tally::Tally;
 
 /// A way to reach the library.
 pub trait Way {
@@ -77,26 +78,22 @@ impl Random {
     }
 }
 
-/// What has been compared.
-#[derive(Default)]
-pub struct Tally {
-    pub sequences: u64,
-    pub calls: u64,
-    pub refusals: u64,
-}
-
 pub struct Script<'a> {
     pub way: &'a mut dyn Way,
     pub random: Random,
     pub tally: Tally,
     sizes: Sizes,
+    /// Sizes are held: every set-up is one with those asked for.
+    held: bool,
+    /// Where the last bursts began: with a direct entry, with an overflow entry.
+    near: [u64; 2],
     sides: [Side; 2],
 }
 
 impl<'a> Script<'a> {
-    pub fn new(way: &'a mut dyn Way, sizes: Sizes, seed: u64) -> Script<'a> {
+    pub fn new(way: &'a mut dyn Way, sizes: Sizes, held: bool, seed: u64) -> Script<'a> {
         let lent = way.lends(sizes);
-        Script { way, random: Random::new(seed), tally: Tally::default(), sizes, sides: [Side::new(lent), Side::new(lent)] }
+        Script { way, random: Random::new(seed), tally: Tally::default(), sizes, held, near: [0; 2], sides: [Side::new(lent), Side::new(lent)] }
     }
 
     fn begin(&mut self) -> bool {
@@ -110,16 +107,18 @@ impl<'a> Script<'a> {
     }
 
     fn say(&mut self, k: usize, call: Call) -> Said {
-        let wanted = self.sides[k].answer(&call);
+        let wanted = self.sides[k].answer(&call, &mut self.tally);
         self.way.call(k, &call, &wanted);
         self.tally.calls += 1;
-        self.tally.refusals += u64::from(matches!(wanted, Said::Refused(_)));
+        if let Some(c) = wanted.refusal() {
+            self.tally.refusals[c as usize] += 1;
+        }
         wanted
     }
 
     fn set_up(&mut self, k: usize) {
         loop {
-            let z = self.random.sizes(self.sizes);
+            let z = if self.held { self.sizes } else { self.random.sizes(self.sizes) };
             if self.say(k, Call::SetUp(z)) == Said::Ok {
                 return;
             }
@@ -131,15 +130,40 @@ impl<'a> Script<'a> {
         self.say(k, call)
     }
 
-    /// Offsets side by side, up to m - 1, m or m + 1 of them, somewhere in a chunk that is likely to be there.
-    fn burst(&mut self, k: usize) {
-        let g = &mut self.random;
-        let chunk = g.below(self.sizes.d.min(4) + 3);
-        let first = g.below((1 << self.sizes.s) / 2);
-        let step = 1 + g.below(3);
-        for i in 0..(self.sizes.m + g.below(3)).saturating_sub(1) {
-            self.say(k, Call::New(((chunk << self.sizes.s) + (first + i * step) % (1 << self.sizes.s)) as i64));
+    /// A burst of m - 1, m or m + 1 members into a chunk that is likely to be there: a low one, the last direct one, or one of the first with an overflow entry.
+    fn some_burst(&mut self, k: usize) {
+        let (d, g) = (self.sizes.d, &mut self.random);
+        let chunk = match g.below(4) {
+            0 => d.saturating_sub(1),
+            1 => d + g.below(3),
+            _ => g.below(d.min(4) + 1),
+        };
+        let members = (self.sizes.m + g.below(3)).saturating_sub(1);
+        self.burst(k, chunk, members);
+    }
+
+    /// So many offsets close together, anywhere in the chunk; few of them once they are refused.
+    fn burst(&mut self, k: usize, chunk: u64, members: u64) {
+        let first = self.random.below((1 << self.sizes.s) / 2);
+        let step = 1 + self.random.below(3);
+        self.near[usize::from(chunk >= self.sizes.d)] = (chunk << self.sizes.s) + first;
+        let mut refused = 0;
+        for i in 0..members {
+            let said = self.say(k, Call::New(((chunk << self.sizes.s) + (first + i * step) % (1 << self.sizes.s)) as i64));
+            refused += u64::from(said.refusal().is_some());
+            if refused == 9 {
+                return;
+            }
         }
+    }
+
+    /// An id around an edge, or among those of the last bursts.
+    fn id(&mut self, spread: u64) -> i64 {
+        let g = &mut self.random;
+        if g.one_in(6) {
+            return (g.one_of(&self.near) + g.below(3 * self.sizes.m)) as i64;
+        }
+        g.id(self.sizes, spread + 9)
     }
 
     /// A call on an open set.
@@ -156,7 +180,7 @@ impl<'a> Script<'a> {
             83 => self.say(k, Call::Open),
             84 => self.say(k, Call::Plan { slots: id as u64, room: 9 }),
             85 => self.say(k, Call::RankUp),
-            86 => return self.burst(k),
+            86 => return self.some_burst(k),
             _ => self.read(k, id),
         };
     }
@@ -243,12 +267,17 @@ impl<'a> Script<'a> {
         let spread = ((1 << self.sizes.s) * (1 + self.random.below(6)) / (1 + self.random.below(40))).max(1);
         self.set_up(0);
         self.set_up(1);
+        if self.held {
+            // one promotion of each sort, whatever comes then
+            self.burst(0, self.sizes.d - 1, self.sizes.m + 1);
+            self.burst(0, self.sizes.d, self.sizes.m + 1);
+        }
         for _ in 0..self.random.below(length) {
             let k = usize::from(self.random.one_in(6));
-            let id = self.random.id(self.sizes, spread + 9);
+            let id = self.id(spread);
             match self.random.below(400) {
                 0 => self.pure(),
-                1 => self.set_up(k),
+                1 if !self.held => self.set_up(k),
                 2 => _ = self.say(k, Call::Check),
                 _ if self.sides[k].is_ranked() => self.ask(k, id),
                 _ => self.grow(k, id),
@@ -266,7 +295,7 @@ impl<'a> Script<'a> {
         self.say(k, Call::RankUp);
         self.say(k, Call::Check);
         for _ in 0..9 {
-            let id = self.random.id(self.sizes, spread + 9);
+            let id = self.id(spread);
             self.ask(k, id);
         }
         self.plan(k);

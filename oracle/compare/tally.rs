@@ -1,0 +1,47 @@
+//! What has been compared: sequences, calls, and how often each kind of thing came up. A kind that never does is a failure of oracle/compare/run.
+use std::fmt;
+
+#[derive(Default)]
+pub struct Tally {
+    pub sequences: u64,
+    pub calls: u64,
+    /// By document 01's number.
+    pub refusals: [u64; 13],
+    /// Sparse chunks that became dense: with a direct entry, with an overflow entry.
+    pub promotions: [u64; 2],
+    /// Rows that a promotion freed and a new chunk took.
+    pub rows_again: u64,
+    /// Ranks asked of ids in dense chunks with an overflow entry.
+    pub overflow_ranks: u64,
+    /// Plans with two boundaries or more.
+    pub several_boundaries: u64,
+    /// Partitions whose `ids` refuses, boundaries being too few, and whose `ranks` answers.
+    pub ranks_alone: u64,
+}
+
+impl Tally {
+    /// 10 waits for the union.
+    const REFUSALS: [usize; 11] = [1, 2, 3, 4, 5, 6, 7, 8, 9, 11, 12];
+
+    fn kinds(&self) -> Vec<(String, u64)> {
+        let refusals = Self::REFUSALS.iter().map(|&c| (format!("refused {c}"), self.refusals[c]));
+        let [direct, overflow] = self.promotions;
+        let others = [
+            ("promoted direct chunks", direct),
+            ("promoted overflow chunks", overflow),
+            ("freed rows used again", self.rows_again),
+            ("ranks in dense overflow chunks", self.overflow_ranks),
+            ("plans with several boundaries", self.several_boundaries),
+            ("ranks where ids refuses", self.ranks_alone),
+        ];
+        refusals.chain(others.map(|(name, n)| (name.to_string(), n))).collect()
+    }
+}
+
+/// One line: what a reader wants, then the kinds, for adding up.
+impl fmt::Display for Tally {
+    fn fmt(&self, f: &mut fmt::Formatter) -> fmt::Result {
+        write!(f, "{} sequences, {} calls equal, {} of them refusals", self.sequences, self.calls, self.refusals.iter().sum::<u64>())?;
+        self.kinds().iter().try_for_each(|(name, n)| write!(f, "|{name}={n}"))
+    }
+}
