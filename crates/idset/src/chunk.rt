@@ -9,14 +9,26 @@ use document::answer::Truth;
 use layout::find;
 use layout::find::Spot;
 use layout::find::Word;
+use numbers::place as element;
 use sparse::Place;
+
+// Chunk c's word: a direct entry's without a call.
+fn word(table: &[u64], c: u64) -> Word
+    requires { ⌜ c < 2 ^ 62 ⌝ }
+    ensures { λ w. ⌜ w ≡ wordIn (now (table .entry)) c ⌝ }
+{
+    if element::at(table, 2) <= c {
+        return find::word_of(table, c);
+    }
+    find::direct_word(table, c)
+}
 
 // The part of a pool that holds chunk c.
 pub fn spot(pages: &[u64], rows: &[u32], blocks: &[u32], table: &[u64], s: u64, c: u64) -> Spot
     requires { ⌜ (9 ≤ s) × (s ≤ 25) × (s ≡ getD (now table) 0 0) × (c < 2 ^ 62) ⌝ }
     ensures { λ q. ⌜ q ≡ spotIf (memOf (pages .entry) (rows .entry) (blocks .entry) (table .entry)) (wordIn (now (table .entry)) c) ⌝ }
 {
-    let Word::Is(w) = find::word_of(table, c) else {
+    let Word::Is(w) = word(table, c) else {
         return Spot::Bad;
     };
     find::spot_of(table, pages.len() as u64, rows.len() as u64, w)

@@ -37,7 +37,7 @@ pub fn into(
     if element::at(table, 2) <= c {
         return Direct::Elsewhere;
     }
-    let Word::Is(w) = find::word_of(table, c) else {
+    let Word::Is(w) = find::direct_word(table, c) else {
         return Direct::Elsewhere;
     };
     let Spot::Page(a, n) = find::spot_of(table, pages.len() as u64, rows.len() as u64, w) else {

@@ -89,6 +89,18 @@ pub fn overflow_word(table: &[u64], d: u64, c: u64) -> Word
     Word::Is(over_word(table, a, n, c, over_place(table, a, n, c)))
 }
 
+// The word of a chunk below D: one look at its entry. Small, so that a call compiles it in and leaves the search to `word_of`.
+pub fn direct_word(table: &[u64], c: u64) -> Word
+    requires { ⌜ (c < 2 ^ 62) × (c < getD (now table) 2 0) ⌝ }
+    ensures { λ w. ⌜ w ≡ wordIn (now (table .entry)) c ⌝ }
+{
+    let i = (16 + 2 * c) as usize;
+    if i < table.len() {
+        return Word::Is(table[i]);
+    }
+    Word::Bad
+}
+
 // Chunk c's word: one look at a direct entry, a search past them.
 pub fn word_of(table: &[u64], c: u64) -> Word
     requires { ⌜ c < 2 ^ 62 ⌝ }
@@ -98,11 +110,7 @@ pub fn word_of(table: &[u64], c: u64) -> Word
     if d <= c {
         return overflow_word(table, d, c);
     }
-    let i = (16 + 2 * c) as usize;
-    if i < table.len() {
-        return Word::Is(table[i]);
-    }
-    Word::Bad
+    direct_word(table, c)
 }
 
 // The part of row r with l members: one of the table's R, in rows that are so long.

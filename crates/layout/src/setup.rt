@@ -67,7 +67,8 @@ pub fn make_fresh(
     table: &mut [u64],
 )
     requires { ⌜ InRange h × Roomy h (length (now pages)) (length (now rows)) (length (now blocks)) (length (now table)) ⌝ }
-    ensures { λ _. ⌜ memOf (pages .exit) (rows .exit) (blocks .exit) (table .exit) ≡ fresh h (memOf (pages .entry) (rows .entry) (blocks .entry) (table .entry)) ⌝ }
+    ensures { λ _. ⌜ (let x = memOf (pages .entry) (rows .entry) (blocks .entry) (table .entry) in
+        memOf (pages .exit) (rows .exit) (blocks .exit) (table .exit) ≡ fresh h x) ⌝ }
 {
     zero64(pages, head::page_at(h, h.p) as usize);
     zero32(rows, head::row_at(h, h.r) as usize);

@@ -12,7 +12,8 @@ use numbers::place as element;
 
 // A new overflow entry at its place: those from k on move up by one entry, from the top.
 pub fn add_entry(table: &mut [u64], h: Sizes, c: u64, w: u64, k: u64)
-    requires { ⌜ (h .d ≤ 262144) × (overCount (now table) ≤ 65536) × (k ≤ overCount (now table)) × (overAt h (overCount (now table) + 1) ≤ length (now table)) ⌝ }
+    requires { ⌜ (h .d ≤ 262144) × (overCount (now table) ≤ 65536) × (k ≤ overCount (now table))
+        × (overAt h (overCount (now table) + 1) ≤ length (now table)) ⌝ }
     ensures { λ _. ⌜ now (table .exit) ≡ added h (now (table .entry)) c w k ⌝ }
 {
     let n = table[7];

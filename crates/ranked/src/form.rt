@@ -17,7 +17,8 @@ use layout::setup;
 // Counts every block, then every entry.
 fn count_all(h: Sizes, pages: &[u64], rows: &[u32], blocks: &mut [u32], table: &mut [u64])
     requires { ⌜ Walked (memOf pages rows blocks table) h ⌝ }
-    ensures { λ _. ⌜ memOf (pages .entry) (rows .entry) (blocks .exit) (table .exit) ≡ toRanked h (memOf (pages .entry) (rows .entry) (blocks .entry) (table .entry)) ⌝ }
+    ensures { λ _. ⌜ (let x = memOf (pages .entry) (rows .entry) (blocks .entry) (table .entry) in
+        memOf (pages .entry) (rows .entry) (blocks .exit) (table .exit) ≡ toRanked h x) ⌝ }
 {
     blocks::count_pages(h, pages, blocks);
     let n = prefixes::put_prefixes(h, pages, blocks, table);
@@ -27,7 +28,8 @@ fn count_all(h: Sizes, pages: &[u64], rows: &[u32], blocks: &mut [u32], table: &
 // Clears what ranking counted.
 fn clear_all(h: Sizes, pages: &[u64], rows: &[u32], blocks: &mut [u32], table: &mut [u64])
     requires { ⌜ Walked (memOf pages rows blocks table) h ⌝ }
-    ensures { λ _. ⌜ memOf (pages .entry) (rows .entry) (blocks .exit) (table .exit) ≡ toOpen h (memOf (pages .entry) (rows .entry) (blocks .entry) (table .entry)) ⌝ }
+    ensures { λ _. ⌜ (let x = memOf (pages .entry) (rows .entry) (blocks .entry) (table .entry) in
+        memOf (pages .entry) (rows .entry) (blocks .exit) (table .exit) ≡ toOpen h x) ⌝ }
 {
     setup::zero32(blocks, head::block_at(h, h.p) as usize);
     prefixes::clear_prefixes(h, table);

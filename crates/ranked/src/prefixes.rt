@@ -25,7 +25,8 @@ pub fn entry_count(table: &[u64], h: Sizes) -> u64
 
 // The members of entry e.
 pub fn entry_size(h: Sizes, pages: &[u64], counts: &[u32], table: &[u64], e: u64) -> u64
-    requires { ⌜ InRange h × (e ≤ 327680) × (h .p * wide h ≤ length (now pages)) × BlocksCounted h (now pages) (now counts) × Inside h (placeAt h (now table) e) ⌝ }
+    requires { ⌜ InRange h × (e ≤ 327680)
+        × (h .p * wide h ≤ length (now pages)) × BlocksCounted h (now pages) (now counts) × Inside h (placeAt h (now table) e) ⌝ }
     ensures { λ r. ⌜ r ≡ entrySize h (now (pages .entry)) (now (table .entry)) e ⌝ }
 {
     match entry::place_at(table, h, e) {
@@ -37,8 +38,10 @@ pub fn entry_size(h: Sizes, pages: &[u64], counts: &[u32], table: &[u64], e: u64
 
 // All of them, and the total.
 pub fn put_prefixes(h: Sizes, pages: &[u64], counts: &[u32], table: &mut [u64]) -> u64
-    requires { ⌜ InRange h × (overCount (now table) ≤ 65536) × (h .p * wide h ≤ length (now pages)) × BlocksCounted h (now pages) (now counts) × Places h (now table) ⌝ }
-    ensures { λ r. ⌜ (r ≡ sumTo (entrySize h (now (pages .entry)) (now (table .entry))) (entries h (now (table .entry)))) × (now (table .exit) ≡ prefixed h (now (table .entry)) (sumTo (entrySize h (now (pages .entry)) (now (table .entry)))) (entries h (now (table .entry)))) ⌝ }
+    requires { ⌜ InRange h × (overCount (now table) ≤ 65536)
+        × (h .p * wide h ≤ length (now pages)) × BlocksCounted h (now pages) (now counts) × Places h (now table) ⌝ }
+    ensures { λ r. ⌜ (r ≡ sumTo (entrySize h (now (pages .entry)) (now (table .entry))) (entries h (now (table .entry)))) × (now (table .exit)
+        ≡ prefixed h (now (table .entry)) (sumTo (entrySize h (now (pages .entry)) (now (table .entry)))) (entries h (now (table .entry)))) ⌝ }
 {
     let n = entry_count(table, h);
     let mut sum: u64 = 0;

@@ -119,7 +119,9 @@ pub fn copy(src: &[u32], dst: &mut [u32], len: usize)
 // Writes the union's front while both lists last, and returns the unused part of the one that lasts longer.
 pub fn merge<'a>(a: &'a [u32], b: &'a [u32], out: &mut [u32], written: &mut usize) -> &'a [u32]
     requires { ⌜ length (now a) + length (now b) ≤ length (now out) ⌝ }
-    ensures { λ r. ⌜ (now r ≡ merged (now (a .entry)) (now (b .entry)) .rest) × (now (out .exit) ≡ onFront (merged (now (a .entry)) (now (b .entry)) .front) (now (out .entry))) × (now (written .exit) ≡ length (merged (now (a .entry)) (now (b .entry)) .front)) ⌝ }
+    ensures { λ r. ⌜ (now r ≡ merged (now (a .entry)) (now (b .entry)) .rest) × (now (out .exit)
+        ≡ onFront (merged (now (a .entry)) (now (b .entry)) .front) (now (out .entry))) × (now (written .exit)
+        ≡ length (merged (now (a .entry)) (now (b .entry)) .front)) ⌝ }
 {
     let mut i: usize = 0;
     let mut j: usize = 0;
@@ -159,7 +161,8 @@ pub fn union_len(a: &[u32], b: &[u32]) -> usize
 // The union at the front of out, and its length.
 pub fn union_sorted<'a>(a: &'a [u32], b: &'a [u32], out: &mut [u32]) -> usize
     requires { ⌜ length (now a) + length (now b) ≤ length (now out) ⌝ }
-    ensures { λ r. ⌜ (r ≡ length (union (now (a .entry)) (now (b .entry)))) × (now (out .exit) ≡ onFront (union (now (a .entry)) (now (b .entry))) (now (out .entry))) ⌝ }
+    ensures { λ r. ⌜ (r ≡ length (union (now (a .entry)) (now (b .entry)))) × (now (out .exit)
+        ≡ onFront (union (now (a .entry)) (now (b .entry))) (now (out .entry))) ⌝ }
 {
     let mut k: usize = 0;
     let rest = merge(a, b, out, &mut k);

@@ -10,8 +10,8 @@ use Rattle.idset.proofs.chunk.spot.Tie as tie
 abbrev memory : tie.Start → Mem
 memory c = memOf (c .args .pages) (c .args .rows) (c .args .blocks) (c .args .table)
 
-word-of-requires : tie.Need-word-of-requires
-word-of-requires c κs = search needs
+word-requires : tie.Need-word-requires
+word-requires c κs = search needs
 
 enum-known-w : tie.Need-enum-known-w
 enum-known-w c = search needs
@@ -20,19 +20,19 @@ enum-told : tie.Need-enum-told
 enum-told c = search needs
 
 returns : tie.Need-returns
-returns c = ap (spotIf (memory (c .before .before .before .before .before .before .before))) (sym (c .enum-told .given .1) ∙ c .before .before .word-of .ensures)
+returns c = ap (spotIf (memory (c .before .before .before .before .before .before .before))) (sym (c .enum-told .given .1) ∙ c .before .before .word .ensures)
 
 spot-of-requires : tie.Need-spot-of-requires
 spot-of-requires c κs = search needs
 
 returns-2 : tie.Need-returns-2
-returns-2 c = spot-word (memory (c .before .before .before .before .before .before .before .before .before)) _ _ _ (sym (c .before .before .w .given .1) ∙ c .before .before .before .before .word-of .ensures) (c .spot-of .ensures)
+returns-2 c = spot-word (memory (c .before .before .before .before .before .before .before .before .before)) _ _ _ (sym (c .before .before .w .given .1) ∙ c .before .before .before .before .word .ensures) (c .spot-of .ensures)
 
 pub spot-spec : {M : Type 1} → statement M
 spot-spec =
     tie.close
     (tie.spec
-    word-of-requires
+    word-requires
     enum-known-w
     enum-told
     returns

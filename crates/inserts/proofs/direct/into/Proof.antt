@@ -26,7 +26,7 @@ module _ (c : tie.After-spot-of) where
   w = c .before .before .w .given .0 .0
 
   word-is : word.Is w ≡ wordIn (memory start .table) (start .args .c)
-  word-is = sym (c .before .before .w .given .1) ∙ c .before .before .before .before .word-of .ensures
+  word-is = sym (c .before .before .w .given .1) ∙ c .before .before .before .before .direct-word .ensures
 
   spotted : (q : Spot) → c .spot-of .result ≡ q → q ≡ spotBy (memory start) w
   spotted q e = sym e ∙ c .spot-of .ensures
@@ -40,8 +40,8 @@ at-requires c κs = search needs
 returns : tie.Need-returns
 returns c = into-none (memory (c .before .before .before .before .before .before)) _ _
 
-word-of-requires : tie.Need-word-of-requires
-word-of-requires c κs = search needs
+direct-word-requires : tie.Need-direct-word-requires
+direct-word-requires c κs = search needs
 
 enum-known-w : tie.Need-enum-known-w
 enum-known-w c = search needs
@@ -83,7 +83,7 @@ into-spec =
     (tie.spec
     at-requires
     returns
-    word-of-requires
+    direct-word-requires
     enum-known-w
     enum-told
     returns-2

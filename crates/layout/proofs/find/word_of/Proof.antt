@@ -1,5 +1,5 @@
 -- One look below D, a search past it. Assumes nothing.
-use Rattle.layout.proofs.Finds.{in-overflow, in-table, past-table}
+use Rattle.layout.proofs.Finds.{in-overflow}
 use borrow.Author.Needs.{needs}
 use Rattle.layout.proofs.find.word_of.Statement.{statement}
 use Rattle.layout.proofs.find.word_of.Tie as tie
@@ -13,34 +13,11 @@ overflow-word-requires c κs = search needs
 returns : tie.Need-returns
 returns c = let a = c .before .before .before .before .args in in-overflow (a .table .now) (a .c) _ (c .before .before .at .ensures) (c .before .if1 .taken) _ (c .overflow-word .ensures)
 
-mul-i : tie.Need-mul-i
-mul-i c = search needs
-
-add-i : tie.Need-add-i
-add-i c = search needs
-
-mul-t9 : tie.Need-mul-t9
-mul-t9 c = search needs
-
-shared-slice-read-t11 : tie.Need-shared-slice-read-t11
-shared-slice-read-t11 c = search needs
+direct-word-requires : tie.Need-direct-word-requires
+direct-word-requires c κs = search needs
 
 returns-2 : tie.Need-returns-2
-returns-2 c = let a = c .before .before .before .before .before .args in in-table (a .table .now) (a .c) _ (c .before .before .before .at .ensures) (c .before .before .if1 .left) (c .before .if2 .taken)
-
-returns-3 : tie.Need-returns-3
-returns-3 c = let a = c .before .before .before .before .args in past-table (a .table .now) (a .c) _ (c .before .before .at .ensures) (c .before .if1 .left) (c .if2 .left)
+returns-2 c = search needs
 
 pub word-of-spec : {M : Type 1} → statement M
-word-of-spec =
-    tie.close
-    (tie.spec
-    at-requires
-    overflow-word-requires
-    returns
-    mul-i
-    add-i
-    mul-t9
-    shared-slice-read-t11
-    returns-2
-    returns-3)
+word-of-spec = tie.close (tie.spec at-requires overflow-word-requires returns direct-word-requires returns-2)
