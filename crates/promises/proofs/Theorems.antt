@@ -86,6 +86,10 @@ module _ (x : Mem) where
   refused-stays-plan S bs cs n p =
       ap (λ (c : Cut). c .bounds) (p .by) ∙ plan-refused x S bs n (sym (ap (λ (c : Cut). c .answer) (p .by)))
 
+  -- no call writes past the sizes
+  pub spare-stays : (c : Call) (a : Said) (y : Mem) → Does x c a y → Spare (head x) x y
+  spare-stays c a y d = subst (λ (r : runs.Ran). Spare (head x) x (r .after)) (sym (d .by)) (spare x c)
+
   -- set-up writes nothing past the sizes
   pub spare-stays-set-up : (h : Sizes) (a : Outcome) (y : Mem) → SetsUp h x a y → Spare h x y
   spare-stays-set-up h a y s = subst (λ (r : Did). Spare h x (r .after)) (sym (s .by)) (set-up-spare h x)
@@ -96,10 +100,6 @@ module _ (x : Mem) (w : Follows x) where
   -- it stands for one set
   pub stands-for-one : StandsForOne x
   stands-for-one = one-state w
-
-  -- no call writes past the sizes
-  pub spare-stays : (c : Call) (a : Said) (y : Mem) → Does x c a y → Spare (head x) x y
-  spare-stays c a y d = subst (λ (r : runs.Ran). Spare (head x) x (r .after)) (sym (d .by)) (spare x c w)
 
   -- it is never the cause of a 3
   pub never-three : (c : Call) (a : Said) (y : Mem) → Does x c a y → Refuses a 3 → ⊥
