@@ -48,7 +48,6 @@ pub record RowIn (x : Mem) (r l : ℕ) : Type 0 where
 
 pub record PageIn (x : Mem) (p : ℕ) : Type 0 where
   pub there : p < head x .p
-  pub small : p < 65536
   pub fits : p * wide (head x) + wide (head x) ≤ length (x .pages)
 
 pub row-in : (x : Mem) (r l : ℕ) → inside x (Sparse r l) ≡ true → RowIn x r l
@@ -68,13 +67,8 @@ row-in x r l e =
 pub page-in : (x : Mem) (p : ℕ) → inside x (Dense p) ≡ true → PageIn x p
 page-in x p e =
     let n = wide (head x) in
-    let g = both (ltb p (head x .p) && ltb p 65536) (leb (p * n + n) (length (x .pages))) e in
-    let h = both (ltb p (head x .p)) (ltb p 65536) (g .0) in
-    record {
-      there = ltb-true p (head x .p) (h .0);
-      small = ltb-true p 65536 (h .1);
-      fits = leb-true (p * n + n) (length (x .pages)) (g .1);
-    }
+    let g = both (ltb p (head x .p)) (leb (p * n + n) (length (x .pages))) e in
+    record { there = ltb-true p (head x .p) (g .0); fits = leb-true (p * n + n) (length (x .pages)) (g .1) }
 
 -- the place that a word names is one, and inside
 pub record Names (x : Mem) (w : ℕ) (p : Place) : Type 0 where

@@ -80,28 +80,69 @@ module _ (t : List ℕ) (a n c : ℕ) where
 
 -- ---- whether the entries lie inside the table
 
-module _ (t : List ℕ) (d n v : ℕ) (e : n ≡ overCount t) (f : v ≡ getD t 3 0) where
-  sized : Bool → Bool
-  sized b = b && leb (16 + 2 * d + 3 * overCount t) (length t)
+no-and : (a b : Bool) → a ≡ false → (a && b) ≡ false
+no-and a b e = ap (λ (x : Bool). x && b) e
 
-  small-is : (b : Bool) → (leb d 262144 && leb n 65536 && leb n v) ≡ b → sized b ≡ entriesIn t d
-  unfolding sized
-  small-is b h = ap sized (sym h ∙ ap₂ (λ (k i : ℕ). leb d 262144 && leb k 65536 && leb k i) e f)
+and-no : (a b : Bool) → b ≡ false → (a && b) ≡ false
+and-no true b e = e
+and-no false b e = refl
 
-  pub entries-no : not (leb d 262144 && leb n 65536 && leb n v) ≡ true → false ≡ entriesIn t d
-  unfolding sized
+module _ (t : List ℕ) (d n : ℕ) (e : n ≡ overCount t) where
+  abbrev direct-ok : Bool
+  direct-ok = leb d 262144
+
+  abbrev over-ok : Bool
+  over-ok = leb (overCount t) 65536
+
+  abbrev long-ok : Bool
+  long-ok = leb (16 + 2 * d + 3 * overCount t) (length t)
+
+  abbrev fits-ok : Bool
+  fits-ok = leb (overCount t) (getD t 3 0)
+
+  pub entries-direct : 262144 < d → entriesIn t d ≡ false
+  entries-direct l = no-and (direct-ok && over-ok && long-ok) fits-ok (no-and (direct-ok && over-ok) long-ok (no-and direct-ok over-ok (lt-leb d 262144 l)))
+
+  pub entries-over : 65536 < n → entriesIn t d ≡ false
+  entries-over l =
+      no-and (direct-ok && over-ok && long-ok) fits-ok
+      (no-and (direct-ok && over-ok) long-ok (and-no direct-ok over-ok (lt-leb (overCount t) 65536 (omega (arith, e)))))
+
+  pub entries-long : length t < 16 + 2 * d + 3 * n → entriesIn t d ≡ false
+  entries-long l =
+      no-and (direct-ok && over-ok && long-ok) fits-ok
+      (and-no (direct-ok && over-ok) long-ok (lt-leb (16 + 2 * d + 3 * overCount t) (length t) (omega (arith, e))))
+
+  pub entries-fit : getD t 3 0 < n → entriesIn t d ≡ false
+  entries-fit l = and-no (direct-ok && over-ok && long-ok) fits-ok (lt-leb (overCount t) (getD t 3 0) (omega (arith, e)))
+
+  pub entries-all : d ≤ 262144 → n ≤ 65536 → 16 + 2 * d + 3 * n ≤ length t → n ≤ getD t 3 0 → entriesIn t d ≡ true
+  entries-all k l m f =
+      ap₂ _&&_
+      (ap₂ _&&_
+      (ap₂ _&&_ (le-leb d 262144 k) (le-leb (overCount t) 65536 (omega (arith, e))))
+      (le-leb (16 + 2 * d + 3 * overCount t) (length t) (omega (arith, e))))
+      (le-leb (overCount t) (getD t 3 0) (omega (arith, e)))
+
+  -- the test as one line
+  last-two : Bool → Bool
+  last-two b = b && long-ok && fits-ok
+
+  small-is : (b : Bool) → (leb d 262144 && leb n 65536) ≡ b → last-two b ≡ entriesIn t d
+  unfolding last-two
+  small-is b h = ap last-two (sym h ∙ ap (λ (k : ℕ). leb d 262144 && leb k 65536) e)
+
+  pub entries-no : not (leb d 262144 && leb n 65536) ≡ true → false ≡ entriesIn t d
+  unfolding last-two
   entries-no h = small-is false (not-true _ h)
 
-  module _ (h : not (leb d 262144 && leb n 65536 && leb n v) ≡ false) where
-    pub entries-rest : leb (16 + 2 * d + 3 * n) (length t) ≡ entriesIn t d
-    unfolding sized
-    entries-rest = ap (λ (k : ℕ). leb (16 + 2 * d + 3 * k) (length t)) e ∙ small-is true (not-false _ h)
+  module _ (h : not (leb d 262144 && leb n 65536) ≡ false) where
+    pub entries-rest : (v : ℕ) → v ≡ getD t 3 0 → (leb (16 + 2 * d + 3 * n) (length t) && leb n v) ≡ entriesIn t d
+    unfolding last-two
+    entries-rest v f = ap₂ (λ (k i : ℕ). leb (16 + 2 * d + 3 * k) (length t) && leb k i) e f ∙ small-is true (not-false _ h)
 
     pub entries-small : (d ≤ 262144) × (n ≤ 65536)
-    entries-small =
-        let a = both (leb d 262144 && leb n 65536) (leb n v) (not-false _ h) in
-        let b = both (leb d 262144) (leb n 65536) (a .0) in
-        (leb-true d 262144 (b .0), leb-true n 65536 (b .1))
+    entries-small = let a = both (leb d 262144) (leb n 65536) (not-false _ h) in (leb-true d 262144 (a .0), leb-true n 65536 (a .1))
 
 -- what the test says
 pub record EntriesIn (t : List ℕ) (d : ℕ) : Type 0 where
@@ -113,14 +154,14 @@ pub record EntriesIn (t : List ℕ) (d : ℕ) : Type 0 where
 pub entries-are-in : (t : List ℕ) (d : ℕ) → entriesIn t d ≡ true → EntriesIn t d
 entries-are-in t d e =
     let n = overCount t in
-    let a = both (leb d 262144 && leb n 65536 && leb n (getD t 3 0)) (leb (16 + 2 * d + 3 * n) (length t)) e in
-    let b = both (leb d 262144 && leb n 65536) (leb n (getD t 3 0)) (a .0) in
+    let a = both (leb d 262144 && leb n 65536 && leb (16 + 2 * d + 3 * n) (length t)) (leb n (getD t 3 0)) e in
+    let b = both (leb d 262144 && leb n 65536) (leb (16 + 2 * d + 3 * n) (length t)) (a .0) in
     let c = both (leb d 262144) (leb n 65536) (b .0) in
     record {
       direct = leb-true d 262144 (c .0);
       over = leb-true n 65536 (c .1);
-      fits = leb-true n (getD t 3 0) (b .1);
-      long = leb-true (16 + 2 * d + 3 * n) (length t) (a .1);
+      fits = leb-true n (getD t 3 0) (a .1);
+      long = leb-true (16 + 2 * d + 3 * n) (length t) (b .1);
     }
 
 -- ---- the word of an overflow entry
@@ -142,23 +183,20 @@ module _ (t : List ℕ) (a n c k : ℕ) where
     unfolding by-key
     word-own w g f = f ∙ ap₂ by-key (sym (lt-ltb k n l)) (sym (eq-eqb v c g) ∙ ap (λ (i : ℕ). eqb i c) e)
 
-module _ (t : List ℕ) (d c : ℕ) (b : Bool) (e : b ≡ entriesIn t d) where
+module _ (t : List ℕ) (d c : ℕ) where
   by-test : Bool → Word
   by-test a = cond a (Is (overWord t (16 + 2 * d) (overCount t) c (overPlace t (16 + 2 * d) (overCount t) c))) Bad
 
-  pub over-none : not b ≡ true → Bad ≡ overflowWord t d c
+  pub over-none : entriesIn t d ≡ false → Bad ≡ overflowWord t d c
   unfolding by-test
-  over-none g = ap by-test (sym (not-true b g) ∙ e)
+  over-none g = ap by-test (sym g)
 
-  module _ (g : not b ≡ false) where
-    pub over-sized : EntriesIn t d
-    over-sized = entries-are-in t d (sym e ∙ not-false b g)
-
-    pub over-found : (n k w : ℕ) → n ≡ overCount t → k ≡ overPlace t (16 + 2 * d) n c → w ≡ overWord t (16 + 2 * d) n c k → Is w ≡ overflowWord t d c
-    unfolding by-test
-    over-found n k w en ek ew =
-        ap Is (ew ∙ ap (overWord t (16 + 2 * d) n c) ek ∙ ap (λ (j : ℕ). overWord t (16 + 2 * d) j c (overPlace t (16 + 2 * d) j c)) en)
-        ∙ ap by-test (sym (not-false b g) ∙ e)
+  pub over-found : entriesIn t d ≡ true → (n k w : ℕ) → n ≡ overCount t → k ≡ overPlace t (16 + 2 * d) n c → w ≡ overWord t (16 + 2 * d) n c k
+      → Is w ≡ overflowWord t d c
+  unfolding by-test
+  over-found g n k w en ek ew =
+      ap Is (ew ∙ ap (overWord t (16 + 2 * d) n c) ek ∙ ap (λ (j : ℕ). overWord t (16 + 2 * d) j c (overPlace t (16 + 2 * d) j c)) en)
+      ∙ ap by-test (sym g)
 
 -- ---- any chunk's word
 

@@ -1,12 +1,12 @@
 -- A lookup, way by way. Assumes nothing.
 use mathlib.Core.Path.{_≡_, sym, ap, ap₂, _∙_}
 use mathlib.Core.List.{List}
-use mathlib.Core.Bool.{Bool, true, false, cond, not, _&&_}
+use mathlib.Core.Bool.{Bool, true, false, cond, _&&_}
 use Prim.Native.Nat.{ℕ, _+_, _*_, _≤_, _<_}
 use native.Mathlib.Omega.{arith}
 use lib.ListN.{length, getD}
 use lib.Dec.{eqb}
-use borrow.Author.Tests.{lt-ltb, le-ltb, not-true, not-false}
+use borrow.Author.Tests.{lt-ltb, le-ltb}
 use Rattle.layout.specs.Sizes.{directAt, overCount, totalAt}
 use Rattle.layout.specs.Short.{keyAt, overPlace, overWord, entriesIn}
 use Rattle.layout.specs.Seat.{directSeat, overSeat, overflowSeat, seatIn}
@@ -32,21 +32,22 @@ module _ (t : List ℕ) (a n c k : ℕ) where
 
 -- ---- a chunk past the direct entries
 
-module _ (t : List ℕ) (d c : ℕ) (b : Bool) (e : b ≡ entriesIn t d) where
+module _ (t : List ℕ) (d c : ℕ) where
   by-test : Bool → Seat
   by-test a = cond a (overSeat t (16 + 2 * d) (overCount t) c (overPlace t (16 + 2 * d) (overCount t) c)) Bad
 
-  pub seat-none : not b ≡ true → Bad ≡ overflowSeat t d c
+  pub seat-none : entriesIn t d ≡ false → Bad ≡ overflowSeat t d c
   unfolding by-test
-  seat-none g = ap by-test (sym (not-true b g) ∙ e)
+  seat-none g = ap by-test (sym g)
 
-  pub seat-found : not b ≡ false → (n k : ℕ) (q : Seat) → n ≡ overCount t → k ≡ overPlace t (16 + 2 * d) n c → q ≡ overSeat t (16 + 2 * d) n c k → q ≡ overflowSeat t d c
+  pub seat-found : entriesIn t d ≡ true → (n k : ℕ) (q : Seat) → n ≡ overCount t → k ≡ overPlace t (16 + 2 * d) n c
+      → q ≡ overSeat t (16 + 2 * d) n c k → q ≡ overflowSeat t d c
   unfolding by-test
   seat-found g n k q en ek eq =
       eq
       ∙ ap (overSeat t (16 + 2 * d) n c) ek
       ∙ ap (λ (j : ℕ). overSeat t (16 + 2 * d) j c (overPlace t (16 + 2 * d) j c)) en
-      ∙ ap by-test (sym (not-false b g) ∙ e)
+      ∙ ap by-test (sym g)
 
 -- ---- any chunk
 

@@ -1,16 +1,18 @@
 -- The part of a pool that a word names, way by way. Assumes nothing.
-use mathlib.Core.Path.{_≡_, sym, _∙_, ap, ap₂}
+use mathlib.Core.Path.{_≡_, refl, sym, _∙_, ap, ap₂}
 use mathlib.Core.List.{List}
 use mathlib.Core.Bool.{Bool, true, false, cond, not, _&&_}
-use Prim.Native.Nat.{ℕ, _+_, _-_, _*_, _^_, _≤_, _<_}
+use Prim.Native.Nat.{ℕ, suc, _+_, _-_, _*_, _/_, _^_, _≤_, _<_}
 use native.Mathlib.Omega.{arith}
+use native.Mathlib.Nat.{div-add-mod', mod-lt, mul-le-mul-right, suc-mul}
 use lib.ListN.{getD}
+use lib.Pow.{pow-pos}
 use lib.Dec.{leb, ltb}
-use borrow.Author.Tests.{le-leb, lt-leb, leb-true, ltb-true, not-true, not-false}
+use borrow.Author.Tests.{le-leb, lt-leb, leb-true, ltb-true, ltb-false, not-true, not-false}
 use mir.Syntax.{w64}
 use mir.Val.{Fits}
 use Rattle.sums.proofs.Rules.{both}
-use Rattle.numbers.proofs.Powers.{powers, scaled-most, times-most}
+use Rattle.numbers.proofs.Powers.{times-most}
 use Rattle.document.specs.declared.sizes.Sizes.{Sizes}
 use Rattle.layout.specs.Sizes.{wide, headerAt}
 use Rattle.layout.specs.Places.{decoded}
@@ -66,48 +68,45 @@ module _ (t : List ℕ) (rows r l m n : ℕ) (em : m ≡ getD t 1 0) (en : n ≡
 
 -- ---- a page
 
-module _ (t : List ℕ) (pages p s n : ℕ) (es : s ≡ getD t 0 0) (en : n ≡ getD t 5 0) where
+-- page p ends by n exactly where it is one of n / w
+page-ends : (p w n : ℕ) → 0 < w → ltb p (n / w) ≡ leb (p * w + w) n
+page-ends p w n some = go (ltb p (n / w)) refl
+  where
+    go : (b : Bool) → ltb p (n / w) ≡ b → b ≡ leb (p * w + w) n
+    go true e =
+        let l = mul-le-mul-right {m = suc p} {n = n / w} w (ltb-true p (n / w) e) in
+        sym (le-leb (p * w + w) n (omega (arith, div-add-mod' n w, suc-mul p w, l)))
+    go false e =
+        let l = mul-le-mul-right {m = n / w} {n = p} w (ltb-false p (n / w) e) in
+        sym (lt-leb (p * w + w) n (omega (arith, div-add-mod' n w, mod-lt n some, l)))
+
+module _ (t : List ℕ) (pages p k n b : ℕ) (ek : k ≡ getD t 0 0 - 6) (en : n ≡ getD t 5 0) (eb : b ≡ pages / 2 ^ k) where
   abbrev width : ℕ
   width = 2 ^ (getD t 0 0 - 6)
 
-  abbrev page-last : Bool
-  page-last = leb (p * width + width) pages
+  by-page : Bool → Spot
+  by-page a = cond a (Page (p * width) width) Bad
 
-  by-page : Bool → Bool → Spot
-  by-page a b = cond (a && b) (Page (p * width) width) Bad
+  wide-some : 0 < 2 ^ k
+  wide-some = pow-pos k
 
-  page-first : (b : Bool) → (ltb p n && ltb p 65536) ≡ b → by-page b page-last ≡ spotAt (headerAt t) pages 0 (Dense p)
+  page-test : (ltb p n && ltb p b) ≡ (ltb p (getD t 5 0) && leb (p * width + width) pages)
+  page-test =
+      ap₂ _&&_ (ap (ltb p) en)
+      (ap (ltb p) eb ∙ page-ends p (2 ^ k) pages wide-some ∙ ap (λ (j : ℕ). leb (p * 2 ^ j + 2 ^ j) pages) ek)
+
+  pub page-no : not (ltb p n && ltb p b) ≡ true → Bad ≡ spotAt (headerAt t) pages 0 (Dense p)
   unfolding by-page
-  page-first b h = ap (λ (a : Bool). by-page a page-last) (sym h ∙ ap (λ (j : ℕ). ltb p j && ltb p 65536) en)
+  page-no h = ap by-page (sym (not-true _ h) ∙ page-test)
 
-  pub page-no : not (ltb p n && ltb p 65536) ≡ true → Bad ≡ spotAt (headerAt t) pages 0 (Dense p)
-  unfolding by-page
-  page-no h = page-first false (not-true _ h)
+  module _ (h : not (ltb p n && ltb p b) ≡ false) where
+    pub page-fits : p * 2 ^ k + 2 ^ k ≤ pages
+    page-fits =
+        leb-true (p * 2 ^ k + 2 ^ k) pages
+        (sym (page-ends p (2 ^ k) pages wide-some) ∙ ap (ltb p) (sym eb) ∙ both (ltb p n) (ltb p b) (not-false _ h) .1)
 
-  module _ (h : not (ltb p n && ltb p 65536) ≡ false) where
-    pub page-small : p < 65536
-    page-small = ltb-true p 65536 (both (ltb p n) (ltb p 65536) (not-false _ h) .1)
-
-    module _ (a k : ℕ) (ea : a ≡ p * 2 ^ (s - 6)) (ek : k ≡ 2 ^ (s - 6)) where
-      pub page-sum : 9 ≤ s → s ≤ 25 → Fits w64 (a + k)
-      page-sum i j =
-          let z : p * 2 ^ (s - 6) ≤ 2 ^ 47 = scaled-most p (s - 6) (let l = page-small in omega arith) (omega arith) in
-          let y : 2 ^ (s - 6) ≤ 524288 = powers s i j .most-words in
-          record { fits = omega (arith, ea, ek) }
-
-      page-starts : a ≡ p * width
-      page-starts = ea ∙ ap (λ (i : ℕ). p * 2 ^ (i - 6)) es
-
-      page-wide : k ≡ width
-      page-wide = ek ∙ ap (λ (i : ℕ). 2 ^ (i - 6)) es
-
-      pub page-out : pages < a + k → Bad ≡ spotAt (headerAt t) pages 0 (Dense p)
-      unfolding by-page
-      page-out i = ap (by-page true) (sym (lt-leb (p * width + width) pages (omega (arith, page-starts, page-wide)))) ∙ page-first true (not-false _ h)
-
-      pub page-there : a + k ≤ pages → Page a k ≡ spotAt (headerAt t) pages 0 (Dense p)
-      unfolding by-page
-      page-there i =
-          ap₂ Page page-starts page-wide
-          ∙ ap (by-page true) (sym (le-leb (p * width + width) pages (omega (arith, page-starts, page-wide))))
-          ∙ page-first true (not-false _ h)
+    pub page-there : (a w : ℕ) → a ≡ p * 2 ^ k → w ≡ 2 ^ k → Page a w ≡ spotAt (headerAt t) pages 0 (Dense p)
+    unfolding by-page
+    page-there a w ea ew =
+        ap₂ Page (ea ∙ ap (λ (j : ℕ). p * 2 ^ j) ek) (ew ∙ ap (λ (j : ℕ). 2 ^ j) ek)
+        ∙ ap by-page (sym (not-false _ h) ∙ page-test)

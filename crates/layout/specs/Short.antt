@@ -38,7 +38,7 @@ directWord t c = cond (ltb (directAt c) (length t)) (word.Is (getD t (directAt c
 
 -- the entries in use are at most the sizes' and lie inside it
 abbrev pub entriesIn : List ℕ → ℕ → Bool
-entriesIn t d = leb d 262144 && leb (overCount t) 65536 && leb (overCount t) (getD t 3 0) && leb (16 + 2 * d + 3 * overCount t) (length t)
+entriesIn t d = leb d 262144 && leb (overCount t) 65536 && leb (16 + 2 * d + 3 * overCount t) (length t) && leb (overCount t) (getD t 3 0)
 
 abbrev pub overflowWord : List ℕ → ℕ → ℕ → Word
 overflowWord t d c = cond (entriesIn t d) (word.Is (overWord t (16 + 2 * d) (overCount t) c (overPlace t (16 + 2 * d) (overCount t) c))) word.Bad
@@ -56,7 +56,7 @@ spotOn h (Dense p) = Page (p * wide h) (wide h)
 abbrev pub spotFits : Sizes → ℕ → ℕ → Place → Bool
 spotFits h pages rows Absent = true
 spotFits h pages rows (Sparse r l) = ltb r (h .r) && leb (h .m) 1024 && leb l (h .m) && leb (r * h .m + h .m) rows
-spotFits h pages rows (Dense p) = ltb p (h .p) && ltb p 65536 && leb (p * wide h + wide h) pages
+spotFits h pages rows (Dense p) = ltb p (h .p) && leb (p * wide h + wide h) pages
 
 abbrev pub spotAt : Sizes → ℕ → ℕ → Place → Spot
 spotAt h pages rows q = cond (spotFits h pages rows q) (spotOn h q) Bad

@@ -71,21 +71,30 @@ pub fn entries_in(table: &[u64], d: u64) -> bool
     ensures { λ b. ⌜ b ≡ entriesIn (now (table .entry)) d ⌝ }
 {
     let n = element::at(table, 7);
-    if !((d <= 262144) & (n <= 65536) & (n <= element::at(table, 3))) {
+    if !((d <= 262144) & (n <= 65536)) {
         return false;
     }
-    16 + 2 * d + 3 * n <= table.len() as u64
+    (16 + 2 * d + 3 * n <= table.len() as u64) & (n <= element::at(table, 3))
 }
 
 // The word of a chunk past the d direct entries.
 pub fn overflow_word(table: &[u64], d: u64, c: u64) -> Word
     ensures { λ w. ⌜ w ≡ overflowWord (now (table .entry)) d c ⌝ }
 {
-    if !entries_in(table, d) {
+    let n = element::at(table, 7);
+    if 262144 < d {
         return Word::Bad;
     }
-    let n = element::at(table, 7);
+    if 65536 < n {
+        return Word::Bad;
+    }
     let a = 16 + 2 * d;
+    if (table.len() as u64) < a + 3 * n {
+        return Word::Bad;
+    }
+    if table[3] < n {
+        return Word::Bad;
+    }
     Word::Is(over_word(table, a, n, c, over_place(table, a, n, c)))
 }
 
@@ -129,21 +138,16 @@ fn row_spot(table: &[u64], rows: u64, r: u64, l: u64) -> Spot
     Spot::Row(a as usize, m as usize, l as usize)
 }
 
-// The part of page p: one of the table's P, in pages that are so long.
+// The part of page p: one of the table's P, and of the pages that fit into so many words.
 fn page_spot(table: &[u64], pages: u64, p: u64) -> Spot
     requires { ⌜ (9 ≤ getD (now table) 0 0) × (getD (now table) 0 0 ≤ 25) ⌝ }
     ensures { λ q. ⌜ q ≡ spotAt (headerAt (now (table .entry))) pages 0 (Dense p) ⌝ }
 {
-    let s = element::at(table, 0);
-    if !((p < element::at(table, 5)) & (p < 65536)) {
+    let k = element::at(table, 0) - 6;
+    if !((p < element::at(table, 5)) & (p < power::high(pages, k))) {
         return Spot::Bad;
     }
-    let a = power::scaled(p, s - 6);
-    let n = power::pow2(s - 6);
-    if pages < a + n {
-        return Spot::Bad;
-    }
-    Spot::Page(a as usize, n as usize)
+    Spot::Page(power::shifted(p, k) as usize, power::pow2(k) as usize)
 }
 
 // The part of a pool that word w names, where the pools are so long.

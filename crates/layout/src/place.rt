@@ -14,13 +14,13 @@ pub enum Place {
 pub fn decode(w: u64) -> Place
     ensures { λ q. ⌜ q ≡ decoded w ⌝ }
 {
+    if 268435456 <= w {
+        return Place::Dense(w - 268435456);
+    }
     if w == 0 {
         return Place::Absent;
     }
-    if w < 268435456 {
-        return Place::Sparse((w - 1) / 2048, (w - 1) % 2048);
-    }
-    Place::Dense(w - 268435456)
+    Place::Sparse((w - 1) / 2048, (w - 1) % 2048)
 }
 
 pub fn has_row(q: Place) -> bool

@@ -1,6 +1,7 @@
 // A chunk's word and the members of the chunks before it, on any table.
 ghost use mathlib.Core.Path.{_≡_};
-ghost use Prim.Native.Nat.{_^_, _≤_, _<_};
+ghost use Prim.Native.Nat.{_+_, _*_, _^_, _≤_, _<_};
+ghost use lib.ListN.{length};
 ghost use Rattle.layout.specs.Seat.{overSeat, overflowSeat, seatIn};
 use crate::find;
 use numbers::place as element;
@@ -13,27 +14,34 @@ pub enum Seat {
 
 // Overflow entry k of n: past the last one come no members.
 pub fn over_seat(table: &[u64], a: u64, n: u64, c: u64, k: u64) -> Seat
-    requires { ⌜ (a ≤ 1048576) × (k ≤ 65536) ⌝ }
+    requires { ⌜ (a ≤ 1048576) × (k ≤ 65536) × (a + 3 * n ≤ length (now table)) ⌝ }
     ensures { λ q. ⌜ q ≡ overSeat (now (table .entry)) a n c k ⌝ }
 {
     if n <= k {
         return Seat::At(0, element::at(table, 8));
     }
-    Seat::At(
-        find::over_word(table, a, n, c, k),
-        element::at(table, a + 3 * k + 2),
-    )
+    let i = (a + 3 * k + 2) as usize;
+    Seat::At(find::over_word(table, a, n, c, k), table[i])
 }
 
 // A chunk past the d direct entries.
 pub fn overflow_seat(table: &[u64], d: u64, c: u64) -> Seat
     ensures { λ q. ⌜ q ≡ overflowSeat (now (table .entry)) d c ⌝ }
 {
-    if !find::entries_in(table, d) {
+    let n = element::at(table, 7);
+    if 262144 < d {
         return Seat::Bad;
     }
-    let n = element::at(table, 7);
+    if 65536 < n {
+        return Seat::Bad;
+    }
     let a = 16 + 2 * d;
+    if (table.len() as u64) < a + 3 * n {
+        return Seat::Bad;
+    }
+    if table[3] < n {
+        return Seat::Bad;
+    }
     over_seat(table, a, n, c, find::over_place(table, a, n, c))
 }
 

@@ -44,8 +44,8 @@ entries-inside x z room f =
     let r = room .in-table in
     let v = z .v-high in
     ap₂ _&&_
-    (ap₂ _&&_ (ap₂ _&&_ (le-leb d 262144 (z .d-high)) (le-leb n 65536 (omega arith))) (le-leb n (head x .v) f))
-    (le-leb (16 + 2 * d + 3 * n) (length (x .table)) (omega arith))
+    (ap₂ _&&_ (ap₂ _&&_ (le-leb d 262144 (z .d-high)) (le-leb n 65536 (omega arith))) (le-leb (16 + 2 * d + 3 * n) (length (x .table)) (omega arith)))
+    (le-leb n (head x .v) f)
 
 pub word-in-is : (x : Mem) → Walked x (head x) → (c : ℕ) → wordIn (x .table) c ≡ word.Is (wordOf (head x) (x .table) c)
 unfolding wordIn
@@ -79,12 +79,8 @@ place-inside x h z r c (Sparse i l) u =
     (le-leb (i * h .m + h .m) (length (x .rows)) (omega arith))
 place-inside x h z r c (Dense p) u =
     let a = r .in-pages in
-    let b = u .there in
-    let d = z .p-high in
-    let s = slot-inside p (h .p) (wide h) b in
-    ap₂ _&&_
-    (ap₂ _&&_ (lt-ltb p (h .p) b) (lt-ltb p 65536 (omega arith)))
-    (le-leb (p * wide h + wide h) (length (x .pages)) (omega arith))
+    let s = slot-inside p (h .p) (wide h) (u .there) in
+    ap₂ _&&_ (lt-ltb p (h .p) (u .there)) (le-leb (p * wide h + wide h) (length (x .pages)) (omega arith))
 
 pub spot-inside : (x : Mem) (h : Sizes) → InRange h → RoomIn h x → (c : ℕ) (p : Place) → Owned h (x .table) c p → spotAt h (length (x .pages)) (length (x .rows)) p ≡ spotOn h p
 spot-inside x h z r c p u = ap (λ (b : Bool). cond b (spotOn h p) Bad) (place-inside x h z r c p u)

@@ -7,11 +7,6 @@ use Rattle.layout.proofs.Spots.{spot-way}
 use borrow.Author.Needs.{needs}
 use Rattle.layout.proofs.find.spot_of.Statement.{statement}
 use Rattle.layout.proofs.find.spot_of.Tie as tie
-use Rattle.layout.proofs.find.spot_of.Reads as reads
-use Rattle.layout.proofs.find.spot_of.Lts as lts
-use Rattle.layout.proofs.find.page_spot.Reads as page-spot-reads
-use Rattle.layout.proofs.find.row_spot.Reads as row-spot-reads
-use Rattle.layout.proofs.place.decode.Reads as decode-reads
 
 decode-requires : tie.Need-decode-requires
 decode-requires c κs = search needs
@@ -23,7 +18,10 @@ enum-known-r : tie.Need-enum-known-r
 enum-known-r c = search needs
 
 row-spot-requires : tie.Need-row-spot-requires
-row-spot-requires c κs = let s = sparse-small (c .before .before .before .before .before .args .w) _ _ _ (c .before .before .before .decode .ensures) (c .before .r .given .1) in omega (arith, s .0)
+row-spot-requires c κs =
+    let s = sparse-small (c .before .before .before .before .before .args .w) _ _ _ (c .before .before .before .decode .ensures)
+    (c .before .r .given .1) in
+    omega (arith, s .0)
 
 enum-known-p : tie.Need-enum-known-p
 enum-known-p c = search needs
@@ -32,13 +30,21 @@ page-spot-requires : tie.Need-page-spot-requires
 page-spot-requires c κs = search needs
 
 returns : tie.Need-returns
-returns c = let a = c .before .before .before .before .args in spot-way (headerAt (a .table .now)) (a .pages) (a .rows) (a .w) _ _ (c .before .before .decode .ensures) (c .enum-told .given .1)
+returns c =
+    let a = c .before .before .before .before .args in
+    spot-way (headerAt (a .table .now)) (a .pages) (a .rows) (a .w) _ _ (c .before .before .decode .ensures) (c .enum-told .given .1)
 
 returns-2 : tie.Need-returns-2
-returns-2 c = let a = c .before .before .before .before .before .before .args in c .row-spot .ensures ∙ spot-way (headerAt (a .table .now)) (a .pages) (a .rows) (a .w) _ _ (c .before .before .before .before .decode .ensures) (c .before .before .r .given .1)
+returns-2 c =
+    let a = c .before .before .before .before .before .before .args in
+    c .row-spot .ensures ∙ spot-way (headerAt (a .table .now)) (a .pages) (a .rows) (a .w) _ _ (c .before .before .before .before .decode .ensures)
+    (c .before .before .r .given .1)
 
 returns-3 : tie.Need-returns-3
-returns-3 c = let a = c .before .before .before .before .before .before .args in c .page-spot .ensures ∙ spot-way (headerAt (a .table .now)) (a .pages) (a .rows) (a .w) _ _ (c .before .before .before .before .decode .ensures) (c .before .before .p .given .1)
+returns-3 c =
+    let a = c .before .before .before .before .before .before .args in
+    c .page-spot .ensures ∙ spot-way (headerAt (a .table .now)) (a .pages) (a .rows) (a .w) _ _ (c .before .before .before .before .decode .ensures)
+    (c .before .before .p .given .1)
 
 pub spot-of-spec : {M : Type 1} → statement M
 spot-of-spec =

@@ -5,19 +5,19 @@ use Rattle.layout.proofs.place.decode.Statement.{statement}
 use Rattle.layout.proofs.place.decode.Tie as tie
 
 returns : tie.Need-returns
-returns c = decoded-absent _ (c .if1 .taken)
-
-sub-t3 : tie.Need-sub-t3
-sub-t3 c = search needs
-
-sub-t5 : tie.Need-sub-t5
-sub-t5 c = search needs
+returns c = decoded-dense _ (c .if1 .taken)
 
 returns-2 : tie.Need-returns-2
-returns-2 c = decoded-sparse _ (c .before .if1 .left) (c .if2 .taken)
+returns-2 c = decoded-absent _ (c .if2 .taken)
+
+sub-t4 : tie.Need-sub-t4
+sub-t4 c = search needs
+
+sub-t6 : tie.Need-sub-t6
+sub-t6 c = search needs
 
 returns-3 : tie.Need-returns-3
-returns-3 c = decoded-dense _ (c .if2 .left)
+returns-3 c = decoded-sparse _ (c .if2 .left) (c .before .if1 .left)
 
 pub decode-spec : {M : Type 1} → statement M
-decode-spec = tie.close (tie.spec returns sub-t3 sub-t5 returns-2 returns-3)
+decode-spec = tie.close (tie.spec returns returns-2 sub-t4 sub-t6 returns-3)
