@@ -19,7 +19,7 @@ use call::{Call, Record};
 use library::{Answer, DONE, Memory, Sizes, refused};
 use plain::Plain;
 use poke::Random;
-use rows::{Bad, NAMES};
+use rows::{Bad, NAMES, Row};
 use std::fmt::Arguments;
 
 /// What memory stands for, or what is wrong with it.
@@ -31,8 +31,8 @@ fn judged(x: &Memory) -> Judged {
 
 /// s m D V R P, rounds, most calls that make a set. Document 01's tiny sizes, some around them, the program's.
 const SIZES: [([u64; 6], u64, u64); 13] = [
-    ([9, 4, 2, 1, 2, 1], 6000, 40),
-    ([9, 4, 2, 3, 5, 4], 6000, 60),
+    ([9, 4, 2, 1, 2, 1], 5000, 40),
+    ([9, 4, 2, 3, 5, 4], 5000, 60),
     ([9, 1, 1, 2, 3, 3], 3000, 40),
     ([9, 1, 0, 5, 5, 5], 3000, 40),
     ([9, 2, 5, 0, 5, 1], 2000, 40),
@@ -157,10 +157,11 @@ impl Run {
         }
     }
 
-    fn under(&mut self, row: Result<&str, String>, call: Option<Call>, before: &Memory) {
-        let place = row.and_then(|name| NAMES.iter().position(|n| *n == name).ok_or(format!("no row {name}")));
-        self.ensure(place.is_ok(), format_args!("{place:?}"), call, before);
-        self.rows[place.unwrap_or(0)] += 1;
+    fn under(&mut self, row: Result<Row, String>, call: Option<Call>, before: &Memory) {
+        match row {
+            Ok(row) => self.rows[row as usize] += 1,
+            Err(why) => self.ensure(false, format_args!("{why}"), call, before),
+        }
     }
 
     /// Planning writes boundaries alone, and those of the plan only.

@@ -6,16 +6,47 @@ use crate::other;
 use crate::plain::Plain;
 use crate::second::{Word, page_owner_at, row_owner_at, standing, word};
 
+#[derive(Clone, Copy, PartialEq, Debug)]
+pub enum Row {
+    Order,
+    EmptyEntry,
+    NoLength,
+    Shared,
+    Owner,
+    Words,
+    Falling,
+    Far,
+    NamedFree,
+    FreeRow,
+    FreePage,
+    PassedOver,
+    Prefix,
+    Total,
+    Blocks,
+    WrittenOver,
+    Negative,
+    Sizes,
+    Elsewhere,
+}
+
 pub const NAMES: [&str; 19] = [
     "order", "empty entry", "no length", "shared", "owner", "words", "falling", "far", "named free", "free row", "free page", "passed over", "prefix",
     "total", "blocks", "written over", "negative", "sizes", "elsewhere",
 ];
 
+impl Row {
+    pub fn name(self) -> &'static str {
+        NAMES[self as usize]
+    }
+
+    /// Document 01's answer and no other.
+    fn exact(self) -> bool {
+        matches!(self, Row::Negative | Row::Sizes | Row::Elsewhere)
+    }
+}
+
 /// The rules that the walk tests.
 const WALK: [u8; 10] = [1, 2, 3, 4, 5, 6, 7, 8, 9, 13];
-
-/// The last three have no other answer than document 01's.
-const EXACT: [&str; 3] = ["negative", "sizes", "elsewhere"];
 
 struct Entry {
     chunk: u64,
@@ -171,33 +202,38 @@ impl Bad {
     }
 
     /// The row that this answer falls under, or what is wrong with it.
-    pub fn row_of(&self, x: &Memory, call: Call, a: Answer) -> Result<&'static str, String> {
+    pub fn row_of(&self, x: &Memory, call: Call, a: Answer) -> Result<Row, String> {
         let name = match call {
             Call::Get(id) | Call::Set(id) | Call::SetIfNew(id) | Call::SetPrepared(id) | Call::Rank(id) | Call::RankIfSet(id) if id >= 0 => self.of_a_chunk(x, call, id as u64),
             Call::Len | Call::IsEmpty | Call::HasAny | Call::Chunks => self.of_counts(call),
-            Call::TotalCount if self.breaks(&[15]) => "total",
-            Call::PreAllocate(max) if max >= 0 => self.of_rows_and("free page", self.page.filled || self.breaks(&[12])),
-            Call::IntoRanked => self.of_rows_and("written over", self.breaks(&[14, 15, 16])),
-            Call::IntoOpen if self.breaks(&[14, 15, 16]) => "written over",
-            Call::PreAllocate(_) | Call::Get(_) | Call::Set(_) | Call::SetIfNew(_) | Call::SetPrepared(_) | Call::Rank(_) | Call::RankIfSet(_) => "negative",
-            Call::ChunkOf(id) if id < 0 => "negative",
+            Call::TotalCount if self.breaks(&[15]) => Row::Total,
+            Call::PreAllocate(max) if max >= 0 => self.of_rows_and(Row::FreePage, self.breaks(&[12])),
+            Call::IntoRanked => self.of_rows_and(Row::WrittenOver, self.breaks(&[14, 15, 16])),
+            Call::IntoOpen if self.breaks(&[14, 15, 16]) => Row::WrittenOver,
+            Call::PreAllocate(_) | Call::Get(_) | Call::Set(_) | Call::SetIfNew(_) | Call::SetPrepared(_) | Call::Rank(_) | Call::RankIfSet(_) => Row::Negative,
+            Call::ChunkOf(id) if id < 0 => Row::Negative,
             _ => self.beside(),
         };
-        let wanted = if EXACT.contains(&name) { self.exact(x, call) } else { None };
-        if wanted.is_none_or(|w| w == a) { Ok(name) } else { Err(format!("{a:?} and not {wanted:?} with nothing wrong where it looks ({name})")) }
+        let wanted = if name.exact() { self.exact(x, call) } else { None };
+        if wanted.is_none_or(|w| w == a) { Ok(name) } else { Err(format!("{a:?} and not {wanted:?} with nothing wrong where it looks ({name:?})")) }
     }
 
     /// The answer of a call that walks the table first: 3 where that finds something wrong, else that of the set that the table speaks of.
     pub fn walking(&self, call: Call, lent: [usize; 4]) -> Option<Answer> {
-        matches!(call, Call::PreAllocate(_) | Call::IntoRanked | Call::IntoOpen)
-            .then(|| self.walked.as_ref().map_or(refused(3), |set| set.clone().call(call, lent)))
+        let turn = |set: &Plain, from: bool, no: u64| if set.ranked == from { DONE } else { refused(no) };
+        let of = |set: &Plain| match call {
+            Call::IntoRanked => turn(set, false, 4),
+            Call::IntoOpen => turn(set, true, 5),
+            _ => set.clone().call(call, lent),
+        };
+        matches!(call, Call::PreAllocate(_) | Call::IntoRanked | Call::IntoOpen).then(|| self.walked.as_ref().map_or(refused(3), of))
     }
 
     /// Planning walks first too. With nothing wrong where it looks, its boundaries are those of that set.
     pub fn plan_fits(&self, x: &Memory, slots: u64, room: usize, told: Result<Record, u64>, bounds: &[i64]) -> bool {
         match &self.walked {
             None => told == Err(3),
-            Some(set) if EXACT.contains(&self.row_of_plan()) => set.plan(slots, room) == told.map(|r| (r, bounds.to_vec())),
+            Some(set) if self.row_of_plan().exact() => set.plan(slots, room) == told.map(|r| (r, bounds.to_vec())),
             Some(_) => told != Err(3) && other::plan_fits(x, slots, room, told),
         }
     }
@@ -215,44 +251,44 @@ impl Bad {
     }
 
     /// Planning's row.
-    pub fn row_of_plan(&self) -> &'static str {
+    pub fn row_of_plan(&self) -> Row {
         match () {
-            _ if self.breaks(&[15]) => "total",
-            _ if self.breaks(&[14]) => "prefix",
-            _ if self.breaks(&[16]) => "blocks",
-            _ => self.of_rows_and("", false),
+            _ if self.breaks(&[15]) => Row::Total,
+            _ if self.breaks(&[14]) => Row::Prefix,
+            _ if self.breaks(&[16]) => Row::Blocks,
+            _ => self.of_rows_and(Row::Elsewhere, false),
         }
     }
 
-    fn beside(&self) -> &'static str {
-        if self.breaks(&[1, 2]) { "sizes" } else { "elsewhere" }
+    fn beside(&self) -> Row {
+        if self.breaks(&[1, 2]) { Row::Sizes } else { Row::Elsewhere }
     }
 
-    fn of_rows_and(&self, other: &'static str, is: bool) -> &'static str {
+    fn of_rows_and(&self, other: Row, is: bool) -> Row {
         match () {
-            _ if self.any(|e| e.falling) => "falling",
-            _ if self.any(|e| e.far) => "far",
+            _ if self.any(|e| e.falling) => Row::Falling,
+            _ if self.any(|e| e.far) => Row::Far,
             _ if is => other,
             _ => self.beside(),
         }
     }
 
-    fn of_counts(&self, call: Call) -> &'static str {
+    fn of_counts(&self, call: Call) -> Row {
         let members = matches!(call, Call::Len | Call::IsEmpty);
         let ids = |e: &Entry| e.chunk < self.direct as u64 || e.chunk >= 1 << (63 - self.s);
         match () {
-            _ if !self.rising || self.entries[self.direct..].iter().any(ids) => "order",
-            _ if self.entries[self.direct..].iter().any(|e| matches!(e.word, Word::Absent)) => "empty entry",
-            _ if self.any(|e| matches!(e.word, Word::Row(_, 0))) => "no length",
-            _ if self.any(|e| e.shared) => "shared",
-            _ if !members && self.breaks(&[9]) => "words",
-            _ if members && self.any(|e| e.falling) => "falling",
-            _ if members && self.any(|e| e.far) => "far",
+            _ if !self.rising || self.entries[self.direct..].iter().any(ids) => Row::Order,
+            _ if self.entries[self.direct..].iter().any(|e| matches!(e.word, Word::Absent)) => Row::EmptyEntry,
+            _ if self.any(|e| matches!(e.word, Word::Row(_, 0))) => Row::NoLength,
+            _ if self.any(|e| e.shared) => Row::Shared,
+            _ if !members && self.breaks(&[9]) => Row::Words,
+            _ if members && self.any(|e| e.falling) => Row::Falling,
+            _ if members && self.any(|e| e.far) => Row::Far,
             _ => self.beside(),
         }
     }
 
-    fn of_a_chunk(&self, x: &Memory, call: Call, id: u64) -> &'static str {
+    fn of_a_chunk(&self, x: &Memory, call: Call, id: u64) -> Row {
         let (c, o) = (id >> self.s, id % (1 << self.s));
         let (at, entry) = self.place(c);
         let ranks = matches!(call, Call::Rank(_) | Call::RankIfSet(_));
@@ -264,19 +300,19 @@ impl Bad {
         let (prefix, before) = self.entries.get(at).map_or((self.total, self.members), |e| (e.prefix, e.before));
         let is = |what: fn(&Entry) -> bool| entry.is_some_and(what);
         match () {
-            _ if c >= self.direct as u64 && !self.rising => "order",
-            _ if c >= self.direct as u64 && is(|e| matches!(e.word, Word::Absent)) => "empty entry",
-            _ if is(|e| matches!(e.word, Word::Row(_, 0))) => "no length",
-            _ if is(|e| e.shared) => "shared",
-            _ if is(|e| !e.owner) => "owner",
-            _ if is(|e| e.falling) => "falling",
-            _ if turns && is(|e| e.far) => "far",
-            _ if begins && self.row.named || turns && self.page.named => "named free",
-            _ if begins && self.row.filled => "free row",
-            _ if turns && self.page.filled => "free page",
-            _ if begins && self.row.passed || turns && self.page.passed => "passed over",
-            _ if ranks && prefix != before => "prefix",
-            _ if ranks && self.blocks_wrong(x, w, o) => "blocks",
+            _ if c >= self.direct as u64 && !self.rising => Row::Order,
+            _ if c >= self.direct as u64 && is(|e| matches!(e.word, Word::Absent)) => Row::EmptyEntry,
+            _ if is(|e| matches!(e.word, Word::Row(_, 0))) => Row::NoLength,
+            _ if is(|e| e.shared) => Row::Shared,
+            _ if is(|e| !e.owner) => Row::Owner,
+            _ if is(|e| e.falling) => Row::Falling,
+            _ if turns && is(|e| e.far) => Row::Far,
+            _ if begins && self.row.named || turns && self.page.named => Row::NamedFree,
+            _ if begins && self.row.filled => Row::FreeRow,
+            _ if turns && self.page.filled => Row::FreePage,
+            _ if begins && self.row.passed || turns && self.page.passed => Row::PassedOver,
+            _ if ranks && prefix != before => Row::Prefix,
+            _ if ranks && self.blocks_wrong(x, w, o) => Row::Blocks,
             _ => self.beside(),
         }
     }

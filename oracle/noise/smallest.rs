@@ -1,7 +1,7 @@
 //! The smallest input of each row of docs/EXCEPTIONS.md, and inputs that once were answered and now are refused: what each asked call answers, one after the other.
 use crate::call::{Call, Call::*};
 use crate::library::{Answer, DONE, Memory, NONE, Sizes};
-use crate::rows::{Bad, NAMES};
+use crate::rows::{Bad, NAMES, Row};
 use crate::second;
 
 #[derive(Clone, Copy)]
@@ -105,7 +105,7 @@ pub fn run() {
         pokes.iter().for_each(|&p| poke(&mut x, p));
         let broken = second::read(&x).expect_err("memory of a smallest input follows the layout");
         if let (Of(call, a), false) = (asks[0], name.is_empty()) {
-            assert_eq!(Bad::new(&x, broken).row_of(&x, call, a), Ok(name), "smallest input: {call:?}");
+            assert_eq!(Bad::new(&x, broken).row_of(&x, call, a).map(Row::name), Ok(name), "smallest input: {call:?}");
         }
         let of = if name.is_empty() { "a refusal" } else { name };
         asks.iter().for_each(|&a| ask(&mut x, a, of));
