@@ -1,6 +1,7 @@
 //! Calls on memory that no call made: made sets with words poked into them, and pure noise. The check is compared with a second one, every call
 //! answers what document 01 lets it, a refusal and a reading call leave all as it was, and where memory follows the layout answer and memory after
-//! are the plain set's. Arguments: how many times the usual number of rounds, the seed, and for one round alone its sizes' place and its number.
+//! are the plain set's; where it doesn't, the answer falls under a row of docs/EXCEPTIONS.md, and every row comes up.
+//! Arguments: how many times the usual number of rounds, the seed, and for one round alone its sizes' place and its number.
 mod call;
 mod choose;
 #[path = "../library.rs"]

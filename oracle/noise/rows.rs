@@ -1,5 +1,5 @@
-//! The rows of docs/EXCEPTIONS.md: which of them an answer on memory that the full check refuses falls under, by what is wrong with the part that the call looks at.
-//! Nothing wrong there: the answer is document 01's for that part, and is held against it.
+//! The rows of docs/EXCEPTIONS.md: which of them an answer on memory that the full check refuses falls under, by what is wrong with the part
+//! that the call looks at. Nothing wrong there: the answer is document 01's for that part, and is held against it.
 use crate::call::{Call, Record};
 use crate::library::{Answer, DONE, Memory, NONE, Sizes, refused, value};
 use crate::other;
@@ -204,7 +204,9 @@ impl Bad {
     /// The row that this answer falls under, or what is wrong with it.
     pub fn row_of(&self, x: &Memory, call: Call, a: Answer) -> Result<Row, String> {
         let name = match call {
-            Call::Get(id) | Call::Set(id) | Call::SetIfNew(id) | Call::SetPrepared(id) | Call::Rank(id) | Call::RankIfSet(id) if id >= 0 => self.of_a_chunk(x, call, id as u64),
+            Call::Get(id) | Call::Set(id) | Call::SetIfNew(id) | Call::SetPrepared(id) | Call::Rank(id) | Call::RankIfSet(id) if id >= 0 => {
+                self.of_a_chunk(x, call, id as u64)
+            }
             Call::Len | Call::IsEmpty | Call::HasAny | Call::Chunks => self.of_counts(call),
             Call::TotalCount if self.breaks(&[15]) => Row::Total,
             Call::PreAllocate(max) if max >= 0 => self.of_rows_and(Row::FreePage, self.breaks(&[12])),
@@ -252,11 +254,11 @@ impl Bad {
 
     /// Planning's row.
     pub fn row_of_plan(&self) -> Row {
-        match () {
+        match self.of_rows_and(Row::Prefix, self.breaks(&[14])) {
+            row if !row.exact() => row,
             _ if self.breaks(&[15]) => Row::Total,
-            _ if self.breaks(&[14]) => Row::Prefix,
             _ if self.breaks(&[16]) => Row::Blocks,
-            _ => self.of_rows_and(Row::Elsewhere, false),
+            row => row,
         }
     }
 

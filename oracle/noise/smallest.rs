@@ -1,4 +1,5 @@
-//! The smallest input of each row of docs/EXCEPTIONS.md, and inputs that once were answered and now are refused: what each asked call answers, one after the other.
+//! The smallest input of each row of docs/EXCEPTIONS.md, and inputs that once were answered and now are refused: what calls answer on them, one
+//! after the other.
 use crate::call::{Call, Call::*};
 use crate::library::{Answer, DONE, Memory, NONE, Sizes};
 use crate::rows::{Bad, NAMES, Row};
@@ -45,7 +46,10 @@ const CASES: [Case; 31] = [
     ("shared", [9, 1, 2, 0, 0, 1], &[PreAllocate(0)], &[Table(18, 1 << 28)], &[Of(SetPrepared(512), YES), Of(Get(0), YES)]),
     ("owner", [9, 1, 1, 0, 1, 0], &[Set(0)], &[Table(18, 0)], &[Of(Get(0), YES)]),
     ("words", [9, 1, 1, 0, 0, 0], &[], &[Table(16, 2)], &[Of(Chunks, YES), Of(HasAny, YES), Of(Len, BAD)]),
-    ("falling", [9, 3, 1, 0, 1, 0], &[Set(1), Set(2), Set(3)], &[Rows(0, 9)], &[Of(Get(2), NO), Of(Len, THREE), Of(IntoRanked, DONE), Of(Rank(2), NO), Of(RankIfSet(2), NONE)]),
+    (
+        "falling", [9, 3, 1, 0, 1, 0], &[Set(1), Set(2), Set(3)], &[Rows(0, 9)],
+        &[Of(Get(2), NO), Of(Len, THREE), Of(IntoRanked, DONE), Of(Rank(2), NO), Of(RankIfSet(2), NONE)],
+    ),
     ("falling", [9, 3, 1, 0, 1, 0], &[Set(1), Set(2)], &[Rows(0, 9)], &[Of(SetIfNew(2), YES), Of(Len, THREE)]),
     ("far", [9, 1, 1, 0, 1, 1], &[Set(5)], &[Rows(0, 517)], &[Of(Len, YES), Of(SetIfNew(6), YES), Of(Get(5), YES)]),
     ("far", [9, 1, 1, 0, 1, 1], &[Set(5)], &[Rows(0, 517)], &[Of(PreAllocate(0), DONE), Of(Get(5), YES)]),
