@@ -1,6 +1,7 @@
 //! Calls on memory that no call made: made sets with words poked into them, and pure noise. The check is compared with a second one, every call
 //! answers what document 01 lets it, a refusal and a reading call leave all as it was, and where memory follows the layout answer and memory after
-//! are the plain set's. Arguments: how many times the usual number of rounds, the seed, and for one round alone its sizes' place and its number.
+//! are the plain set's; where it doesn't, the answer falls under a row of docs/EXCEPTIONS.md, and every row comes up.
+//! Arguments: how many times the usual number of rounds, the seed, and for one round alone its sizes' place and its number.
 mod call;
 mod choose;
 #[path = "../library.rs"]
@@ -11,21 +12,28 @@ mod plain;
 mod planning;
 mod poke;
 mod records;
+mod rows;
 mod second;
+mod smallest;
 
 use call::{Call, Record};
 use library::{Answer, DONE, Memory, Sizes, refused};
 use plain::Plain;
 use poke::Random;
+use rows::{Bad, NAMES, Row};
 use std::fmt::Arguments;
 
-/// What memory stands for, or the rules that it breaks.
-type Judged = Result<Plain, Vec<u8>>;
+/// What memory stands for, or what is wrong with it.
+type Judged = Result<Plain, Bad>;
+
+fn judged(x: &Memory) -> Judged {
+    second::read(x).map_err(|broken| Bad::new(x, broken))
+}
 
 /// s m D V R P, rounds, most calls that make a set. Document 01's tiny sizes, some around them, the program's.
 const SIZES: [([u64; 6], u64, u64); 13] = [
-    ([9, 4, 2, 1, 2, 1], 6000, 40),
-    ([9, 4, 2, 3, 5, 4], 6000, 60),
+    ([9, 4, 2, 1, 2, 1], 5000, 40),
+    ([9, 4, 2, 3, 5, 4], 5000, 60),
     ([9, 1, 1, 2, 3, 3], 3000, 40),
     ([9, 1, 0, 5, 5, 5], 3000, 40),
     ([9, 2, 5, 0, 5, 1], 2000, 40),
@@ -64,6 +72,8 @@ struct Run {
     no: [u64; 3],
     /// How often each rule alone was broken.
     alone: [u64; 17],
+    /// Answers under each row of docs/EXCEPTIONS.md.
+    rows: [u64; NAMES.len()],
 }
 
 impl Run {
@@ -76,14 +86,14 @@ impl Run {
 
     /// The second check's word on memory, which has to be the check's.
     fn judge(&mut self, x: &mut Memory) -> Judged {
-        let judged = second::read(x);
+        let judged = judged(x);
         let answer = x.bp_check();
         self.ensure(answer == judged.is_ok(), format_args!("the checks differ"), Some(Call::Check), x);
         match &judged {
             Ok(_) => self.yes[self.from as usize] += 1,
-            Err(broken) => {
+            Err(bad) => {
                 self.no[self.from as usize] += 1;
-                if let &[rule] = &broken[..] {
+                if let &[rule] = &bad.broken[..] {
                     self.alone[usize::from(rule)] += 1;
                 }
             }
@@ -109,7 +119,8 @@ impl Run {
         match (call, judged) {
             (_, Ok(set)) => self.followed(call, a, before, set, work),
             (Call::SetUp(z), _) => self.set_up(z, a, before, work),
-            (_, Err(broken)) => self.elsewhere(call, a, before, broken, work),
+            (Call::Check, _) => (),
+            (_, Err(bad)) => self.elsewhere(call, a, before, bad, work),
         }
         a
     }
@@ -136,15 +147,22 @@ impl Run {
         }
     }
 
-    /// Any other call on memory that does not follow the layout. Where sizes and lengths are fine, the elements past them stay here too, but for
-    /// inserts where rule 5 or 9 is broken: these take a slot that a word names, whatever R and P are.
-    fn elsewhere(&self, call: Call, a: Answer, before: &Memory, broken: &[u8], work: &Memory) {
+    /// Any other call on memory that does not follow the layout: the answer has its row in docs/EXCEPTIONS.md. The elements past the sizes stay here too.
+    fn elsewhere(&mut self, call: Call, a: Answer, before: &Memory, bad: &Bad, work: &Memory) {
         self.ensure(other::fits(before, call, a), format_args!("{a:?} is not in the exception list"), Some(call), before);
-        let t = &before.table;
-        let insert = matches!(call, Call::Set(_) | Call::SetIfNew(_) | Call::SetPrepared(_));
-        let placed = !matches!(broken, [1] | [2]) && !(insert && (broken.contains(&5) || broken.contains(&9)));
-        let needs = if placed { Sizes { s: t[0], m: t[1], d: t[2], v: t[3], r: t[4], p: t[5] }.needs() } else { before.lent() };
-        self.ensure(past_stays(before, work, needs), format_args!("an element past the sizes changed"), Some(call), before);
+        let wanted = bad.walking(call, before.lent());
+        self.ensure(wanted.is_none_or(|w| w == a), format_args!("{a:?} and not {wanted:?}"), Some(call), before);
+        self.ensure(past_stays(before, work, bad.ends(before)), format_args!("an element past the sizes changed"), Some(call), before);
+        if a.kind != 2 {
+            self.under(bad.row_of(before, call, a), Some(call), before);
+        }
+    }
+
+    fn under(&mut self, row: Result<Row, String>, call: Option<Call>, before: &Memory) {
+        match row {
+            Ok(row) => self.rows[row as usize] += 1,
+            Err(why) => self.ensure(false, format_args!("{why}"), call, before),
+        }
     }
 
     /// Planning writes boundaries alone, and those of the plan only.
@@ -162,9 +180,12 @@ impl Run {
         self.calls += 1;
         let fine = match judged {
             Ok(set) => set.plan(slots, room) == told.map(|r| (r, bounds[..written].to_vec())),
-            Err(_) => other::plan_fits(before, slots, room, told),
+            Err(bad) => bad.plan_fits(before, slots, room, told, &bounds[..written]),
         };
         self.ensure(fine, format_args!("plan {slots} {room} answers {told:?}"), None, before);
+        if let (Err(bad), Ok(_)) = (judged, told) {
+            self.under(Ok(bad.row_of_plan()), None, before);
+        }
         if told.is_err() {
             self.refusals[a.refusal as usize] += 1;
         }
@@ -221,7 +242,7 @@ impl Run {
         let before = x.clone();
         let a = self.one(g, call, &before, judged, x);
         if a.kind != 2 {
-            *judged = second::read(x);
+            *judged = self::judged(x);
         }
     }
 
@@ -249,6 +270,8 @@ impl Run {
              noise {noise} yes {noise_no} no; rules 1 to 16 broken alone {:?}",
             self.rounds, self.calls, self.changes, [1, 2, 3, 4, 5, 6, 7, 8, 9, 11, 12].map(|no: usize| self.refusals[no]), &self.alone[1..]
         );
+        let rows: Vec<String> = NAMES.iter().zip(self.rows).map(|(name, n)| format!("{name} {n}")).collect();
+        println!("noise: answers by the rows of docs/EXCEPTIONS.md: {}", rows.join(", "));
     }
 
     /// The ends of the table of sizes, which no small memory shows.
@@ -270,6 +293,7 @@ fn main() {
     let a: Vec<u64> = std::env::args().skip(1).map(|w| w.parse().expect("a number")).collect();
     let (times, seed) = (a.first().copied().unwrap_or(1), a.get(1).copied().unwrap_or(1));
     let mut run = Run::default();
+    smallest::run();
     run.limits(seed);
     for (k, ([s, m, d, v, r, p], rounds, most)) in (0..).zip(SIZES) {
         let z = Sizes { s, m, d, v, r, p };
@@ -284,5 +308,6 @@ fn main() {
     if a.len() < 4 {
         assert!(run.alone[1..].iter().all(|&n| n > 0), "a rule was never broken alone");
         assert!((1..=12).all(|no| no == 10 || run.refusals[no] > 0), "a refusal never came up");
+        assert!(run.rows.iter().all(|&n| n > 0), "a row of docs/EXCEPTIONS.md never came up");
     }
 }

@@ -119,6 +119,13 @@ impl<'a> View<'a> {
     }
 }
 
+impl View<'_> {
+    fn set(&self) -> Plain {
+        let chunks = self.entries.iter().filter_map(|e| self.offsets(e).map(|c| (e.chunk, c))).collect();
+        Plain { sizes: self.z, ranked: self.ranked(), chunks }
+    }
+}
+
 pub fn sizes_allowed(z: Sizes) -> bool {
     (9..=25).contains(&z.s) && (1..=1024).contains(&z.m) && z.d <= 262_144 && z.v <= 65_536 && z.r <= 65_536 && z.p <= 65_536
 }
@@ -239,6 +246,10 @@ pub fn read(x: &Memory) -> Result<Plain, Vec<u8>> {
     if !broken.is_empty() {
         return Err(broken);
     }
-    let chunks = v.entries.iter().filter_map(|e| v.offsets(e).map(|c| (e.chunk, c))).collect();
-    Ok(Plain { sizes: v.z, ranked: v.ranked(), chunks })
+    Ok(v.set())
+}
+
+/// The set that the entries speak of, where rules 1 to 9 hold.
+pub fn standing(x: &Memory) -> Option<Plain> {
+    View::new(x).ok().map(|v| v.set())
 }

@@ -1,0 +1,121 @@
+//! The smallest input of each row of docs/EXCEPTIONS.md, and inputs that once were answered and now are refused: what calls answer on them, one
+//! after the other.
+use crate::call::{Call, Call::*};
+use crate::library::{Answer, DONE, Memory, NONE, Sizes};
+use crate::rows::{Bad, NAMES, Row};
+use crate::second;
+
+#[derive(Clone, Copy)]
+enum Poke {
+    Table(usize, u64),
+    Rows(usize, u32),
+    Pages(usize, u64),
+    Blocks(usize, u32),
+    /// Only so many words of the table are lent.
+    Short(usize),
+}
+
+use Poke::*;
+
+#[derive(Clone, Copy)]
+enum Ask {
+    Of(Call, Answer),
+    /// Planning with so many members to a partition: total and boundaries, or 3.
+    Plan(u64, Option<(u64, &'static [i64])>),
+}
+
+use Ask::{Of, Plan};
+
+/// A row's name, or none where the first call is refused; s m D V R P; calls that make the set; pokes; calls and their answers.
+type Case = (&'static str, [u64; 6], &'static [Call], &'static [Poke], &'static [Ask]);
+
+const NO: Answer = Answer { kind: 1, value: 0 };
+const YES: Answer = Answer { kind: 1, value: 1 };
+const TWO: Answer = Answer { kind: 1, value: 2 };
+const THREE: Answer = Answer { kind: 1, value: 3 };
+const BAD: Answer = Answer { kind: 2, value: 3 };
+
+const TINY: [u64; 6] = [9, 4, 2, 1, 2, 1];
+
+const CASES: [Case; 31] = [
+    ("order", [9, 1, 0, 3, 3, 0], &[Set(512), Set(1024)], &[Table(16, 2), Table(19, 1)], &[Of(Get(512), NO), Of(SetIfNew(512), YES), Of(Chunks, THREE)]),
+    ("empty entry", [9, 1, 0, 1, 1, 0], &[], &[Table(7, 1)], &[Of(Get(0), NO), Of(Chunks, NO), Of(SetIfNew(0), refusal(6))]),
+    ("empty entry", [9, 1, 0, 2, 1, 0], &[], &[Table(7, 1)], &[Of(SetIfNew(0), YES), Of(Get(0), YES), Of(Check, YES)]),
+    ("no length", [9, 1, 1, 0, 1, 0], &[Set(0)], &[Table(16, 1)], &[Of(Get(0), NO), Of(Chunks, YES), Of(IsEmpty, YES), Of(SetIfNew(0), YES), Of(Check, YES)]),
+    ("shared", [9, 1, 2, 0, 1, 0], &[Set(0)], &[Table(18, 2)], &[Of(Get(512), YES), Of(Len, TWO)]),
+    ("shared", [9, 1, 2, 0, 0, 1], &[PreAllocate(0)], &[Table(18, 1 << 28)], &[Of(SetPrepared(512), YES), Of(Get(0), YES)]),
+    ("owner", [9, 1, 1, 0, 1, 0], &[Set(0)], &[Table(18, 0)], &[Of(Get(0), YES)]),
+    ("words", [9, 1, 1, 0, 0, 0], &[], &[Table(16, 2)], &[Of(Chunks, YES), Of(HasAny, YES), Of(Len, BAD)]),
+    (
+        "falling", [9, 3, 1, 0, 1, 0], &[Set(1), Set(2), Set(3)], &[Rows(0, 9)],
+        &[Of(Get(2), NO), Of(Len, THREE), Of(IntoRanked, DONE), Of(Rank(2), NO), Of(RankIfSet(2), NONE)],
+    ),
+    ("falling", [9, 3, 1, 0, 1, 0], &[Set(1), Set(2)], &[Rows(0, 9)], &[Of(SetIfNew(2), YES), Of(Len, THREE)]),
+    ("far", [9, 1, 1, 0, 1, 1], &[Set(5)], &[Rows(0, 517)], &[Of(Len, YES), Of(SetIfNew(6), YES), Of(Get(5), YES)]),
+    ("far", [9, 1, 1, 0, 1, 1], &[Set(5)], &[Rows(0, 517)], &[Of(PreAllocate(0), DONE), Of(Get(5), YES)]),
+    ("named free", [9, 1, 2, 0, 1, 0], &[Set(0)], &[Table(20, 0)], &[Of(SetIfNew(513), YES), Of(Get(0), NO), Of(Get(1), YES)]),
+    ("free row", [9, 2, 1, 0, 1, 0], &[], &[Rows(1, 7)], &[Of(SetIfNew(0), YES), Of(Len, YES), Of(Check, NO)]),
+    ("free page", [9, 1, 1, 0, 1, 1], &[Set(0)], &[Pages(0, 2)], &[Of(SetIfNew(5), YES), Of(Get(1), YES)]),
+    ("free page", [9, 1, 1, 0, 0, 1], &[], &[Pages(0, 1)], &[Of(PreAllocate(0), DONE), Of(Get(0), YES)]),
+    ("passed over", [9, 1, 1, 0, 2, 0], &[], &[Table(18, 1)], &[Of(SetIfNew(0), YES), Of(Check, NO)]),
+    ("", [9, 1, 1, 0, 1, 0], &[], &[Table(18, 1)], &[Of(SetIfNew(0), refusal(7))]),
+    ("prefix", TINY, &[Set(0), Set(5), IntoRanked], &[Table(17, 2)], &[Of(Rank(5), THREE), Plan(1, Some((2, &[0])))]),
+    ("total", [9, 1, 0, 0, 0, 0], &[IntoRanked], &[Table(8, 1)], &[Of(TotalCount, YES), Plan(1, Some((1, &[])))]),
+    ("blocks", [9, 1, 1, 0, 0, 1], &[PreAllocate(0), IntoRanked], &[Blocks(0, 1)], &[Of(Rank(0), YES)]),
+    ("written over", [9, 1, 0, 0, 0, 0], &[], &[Table(8, 1)], &[Of(IntoRanked, DONE), Of(TotalCount, NO), Of(Check, YES)]),
+    ("written over", [9, 1, 0, 0, 0, 0], &[IntoRanked], &[Table(8, 1)], &[Of(IntoOpen, DONE), Of(Check, YES)]),
+    ("negative", [9, 1, 1, 0, 0, 0], &[], &[Table(16, 1)], &[Of(Get(-1), NO), Of(Get(0), BAD)]),
+    ("sizes", [9, 1, 0, 0, 0, 0], &[], &[Short(1)], &[Of(ChunkOf(5), NO), Of(Rank(5), refusal(5)), Of(Get(5), BAD)]),
+    ("elsewhere", [9, 1, 1, 0, 0, 0], &[], &[Table(9, 1)], &[Of(Get(0), NO), Of(SetIfNew(0), refusal(7))]),
+    // refused since short calls hold slots against R and P, entries against V, and the walk tests every rule of the table
+    ("", [9, 2, 0, 0, 1, 0], &[], &[Table(7, 1), Table(17, 2)], &[Of(SetIfNew(5), BAD)]),
+    ("", [9, 2, 0, 0, 3, 0], &[], &[Table(7, 1), Table(17, 2)], &[Of(SetIfNew(5), BAD)]),
+    ("", [9, 1, 1, 0, 0, 1], &[], &[Table(18, 7)], &[Of(PreAllocate(0), BAD)]),
+    ("", TINY, &[Set(0), Set(5), IntoRanked], &[Table(17, 1 << 63)], &[Of(Rank(5), BAD), Plan(1, None)]),
+    ("", [9, 1, 1, 0, 0, 0], &[], &[Table(16, 2), Rows(0, 5)], &[Of(Get(5), BAD)]),
+];
+
+const fn refusal(no: u64) -> Answer {
+    Answer { kind: 2, value: no }
+}
+
+fn poke(x: &mut Memory, p: Poke) {
+    match p {
+        Table(k, w) => x.table[k] = w,
+        Rows(k, o) => x.rows[k] = o,
+        Pages(k, w) => x.pages[k] = w,
+        Blocks(k, n) => x.blocks[k] = n,
+        Short(n) => x.table.truncate(n),
+    }
+}
+
+fn ask(x: &mut Memory, ask: Ask, of: &str) {
+    match ask {
+        Of(call, wanted) => assert_eq!(call.make(x), wanted, "smallest input of {of}: {call:?}"),
+        Plan(slots, wanted) => {
+            let mut bounds = [0; 4];
+            let a = x.plan(slots, &mut bounds);
+            let told = (a.kind == 1).then(|| (a.total, &bounds[..a.partitions as usize - 1]));
+            assert!(told == wanted && (a.kind == 1 || a.refusal == 3), "smallest input of {of}: planning with {slots} answers {told:?}");
+        }
+    }
+}
+
+/// Every case, and every row has one.
+pub fn run() {
+    for (name, [s, m, d, v, r, p], made, pokes, asks) in CASES {
+        let mut x = Memory::new(Sizes { s, m, d, v, r, p });
+        made.iter().for_each(|call| assert!(call.make(&mut x).kind != 2, "smallest input of {name}: {call:?} is refused"));
+        pokes.iter().for_each(|&p| poke(&mut x, p));
+        let broken = second::read(&x).expect_err("memory of a smallest input follows the layout");
+        if let (Of(call, a), false) = (asks[0], name.is_empty()) {
+            assert_eq!(Bad::new(&x, broken).row_of(&x, call, a).map(Row::name), Ok(name), "smallest input: {call:?}");
+        }
+        let of = if name.is_empty() { "a refusal" } else { name };
+        asks.iter().for_each(|&a| ask(&mut x, a, of));
+    }
+    assert!(NAMES.iter().all(|name| CASES.iter().any(|case| case.0 == *name)), "a row without a smallest input");
+    let list = std::fs::read_to_string("docs/EXCEPTIONS.md").expect("docs/EXCEPTIONS.md");
+    let rows = list.lines().filter_map(|line| line.strip_prefix("| ")?.split(" | ").next()).skip(1);
+    assert!(rows.eq(NAMES), "the rows of docs/EXCEPTIONS.md are others");
+}
