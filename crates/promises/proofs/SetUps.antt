@@ -44,6 +44,15 @@ module _ (h : Sizes) (x : Mem) where
   unfolding setUpBy
   stays e = stays-by (inRange h) (roomIn h x) e
 
+  three-by : (a b : Bool) {y : Mem} → did (Refused 3) y ≡ tested a b → ⊥
+  three-by true true e = differ 3 (sym (ap (λ (d : Did). d .answer) e))
+  three-by true false e = let f = ap (λ (d : Did). d .answer) e in let z : _≡_ {A = ℕ} 3 2 = cc in omega arith
+  three-by false b e = let f = ap (λ (d : Did). d .answer) e in let z : _≡_ {A = ℕ} 3 1 = cc in omega arith
+
+  pub not-three : {y : Mem} → SetsUp h x (Refused 3) y → ⊥
+  unfolding setUpBy
+  not-three s = three-by (inRange h) (roomIn h x) (s .by)
+
   pub set-up-right : {a : Outcome} {y : Mem} → SetsUp h x a y → RightSetUp h x a
   set-up-right s = record { outside = λ n. s .outside n .0; short = λ z n. s .short z n .0; made = λ z r. s .made z r .0 }
 

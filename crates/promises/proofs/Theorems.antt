@@ -1,9 +1,10 @@
 -- What a customer reads: demands 1, 2 and 3 of the contracts themselves, for every history of calls on memory that set-up made. Assumes nothing.
 use mathlib.Core.Path.{_≡_, refl, sym, ap, subst, _∙_}
 use mathlib.Core.Bool.{Bool, true, false, cond}
-use Prim.Native.Nat.{ℕ, _<_}
+use Prim.Native.Nat.{ℕ, _-_, _≤_, _<_}
 use mathlib.Core.List.{List}
 use lib.IntN.{ℤ, pos}
+use lib.ListN.{getD}
 use Rattle.sums.specs.Ids.{count, total, rank}
 use Rattle.sums.proofs.Ranks.{nth-member, nth-one}
 use Rattle.document.specs.State.{State, empty}
@@ -14,6 +15,7 @@ use Rattle.document.specs.declared.answer.Outcome.{Outcome}
 use Rattle.document.specs.declared.answer.Outcome.the-variants.{Done, Refused}
 use Rattle.document.specs.declared.answer.Truth.the-variants.{Is}
 use Rattle.document.specs.declared.answer.Amount.the-variants as amount
+use Rattle.document.specs.declared.plan.Plan.{Plan}
 use Rattle.document.specs.declared.plan.Planning.{Planning}
 use Rattle.document.specs.declared.plan.Planning.the-variants as planning
 use Rattle.document.proofs.Threes.{answer-not-three, reply-not-three, plan-not-three}
@@ -40,12 +42,12 @@ use Rattle.cuts.proofs.Plans.{plan-refused, plans-by}
 use Rattle.promises.specs.Histories.{Step, Ran, last, described, Kept}
 use Rattle.promises.specs.Cuts.{Cuts}
 use Rattle.promises.specs.Cases.{AllSay, table}
-use Rattle.promises.proofs.SetUps.{fit, stays}
+use Rattle.promises.proofs.SetUps.{fit, stays, not-three}
 use Rattle.promises.proofs.Kept.{all-kept}
 use Rattle.promises.proofs.Refusals.{model-stays}
 use Rattle.promises.proofs.Unique.{asked, asked-once, asked-some}
 use Rattle.promises.proofs.Returns.{up-and-back}
-use Rattle.promises.proofs.Cutting.{cut-set}
+use Rattle.promises.proofs.Cutting.{cut-set, spare-bounds}
 use Rattle.promises.proofs.Cases.{table-says}
 
 -- ---- demand 1: memory before fixes answer and memory after, whatever memory is
@@ -94,6 +96,15 @@ module _ (x : Mem) where
 
   pub spare-stays-set-up : (h : Sizes) (a : Outcome) (y : Mem) → SetsUp h x a y → Spare h x y
   spare-stays-set-up h a y s = subst (λ (r : Did). Spare h x (r .after)) (sym (s .by)) (set-up-spare h x)
+
+  -- nor boundaries past the last
+  pub spare-stays-plan : (S : ℕ) (bs : List ℤ) (p : Plan) (cs : List ℤ) → Plans x S bs (planning.Made p) cs
+      → (k : ℕ) → p .partitions - 1 ≤ k → getD cs k (pos 0) ≡ getD bs k (pos 0)
+  spare-stays-plan S bs p cs h k l = spare-bounds x S bs p cs h k l
+
+  -- set-up never answers 3
+  pub never-three-set-up : (h : Sizes) (y : Mem) → SetsUp h x (Refused 3) y → ⊥
+  never-three-set-up h y s = not-three h x s
 
 -- ---- memory that follows the layout
 
