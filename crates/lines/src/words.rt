@@ -1,5 +1,6 @@
 // The words of a line, separated by single spaces: a name, then numbers and ids. An empty line has one word, which is empty.
-// As in the program of document 01 a number has 1 to 20 digits and fits a u64; an id has an optional minus and 1 to 19 digits and fits an i64. So leading zeros count as digits, -0 is an id and no number, and a plus is neither.
+// As in the program of document 01 a number has 1 to 20 digits and fits a u64; an id has an optional minus and 1 to 19 digits and fits an i64. So
+// leading zeros count as digits, -0 is an id and no number, and a plus is neither.
 ghost use mathlib.Core.Path.{_≡_};
 ghost use Prim.Native.Nat.{_+_, _-_, _≤_};
 ghost use lib.ListN.{length, drop};

@@ -6,7 +6,8 @@ use crate::say;
 // More bytes than a line may have: 400 are kept.
 const TOO_MANY: usize = 401;
 
-// Where reading stands: of the bytes read those from `at` to before `end` are not used yet, and `n` bytes are kept of a line, 401 standing for all that are too many.
+// Where reading stands: of the bytes read those from `at` to before `end` are not used yet, and `n` bytes are kept of a line, 401 standing for all
+// that are too many.
 // `w` bytes wait to be written. `whole`: the line has ended. `over`: the input has.
 pub struct Reading {
     pub at: usize,
@@ -88,7 +89,8 @@ fn scan(some: &[u8], text: &mut [u8], at: usize, n: usize, w: usize) -> Reading
     }
 }
 
-// One read, with `n` bytes of a line before it. What waits is written first: whoever sends the lines may wait for it. At the end of the input what is kept is a line too.
+// One read, with `n` bytes of a line before it. What waits is written first: whoever sends the lines may wait for it. At the end of the input what is
+// kept is a line too.
 fn refill(input: &mut [u8], out: &[u8], n: usize, w: usize) -> Reading {
     let none = say::flush(out, w);
     let got = io::count(libc::read(0, input), input);
