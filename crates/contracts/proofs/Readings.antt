@@ -2,8 +2,8 @@
 use mathlib.Core.Path.{_≡_, ap, _∙_}
 use mathlib.Core.Bool.{Bool}
 use lib.IntN.{ℤ, pos, negsuc}
-use Rattle.document.specs.Calls.{Said, whether, many, maybe}
-use Rattle.document.specs.Calls.{Ask, get, chunk-of, len, is-empty, has-any, chunk-count, rank-of, rank-if, total-count, check}
+use Rattle.document.specs.Calls.{Said, whether, many, maybe, listed}
+use Rattle.document.specs.Calls.{Ask, get, any-in-range, chunk-of, len, is-empty, has-any, chunk-count, iterate, rank-of, rank-if, total-count, check}
 use Rattle.document.specs.Answers.{chunkIn, chunksIn, reply}
 use Rattle.document.specs.declared.answer.Truth.the-variants as truth
 use Rattle.layout.specs.Mem.{Mem}
@@ -12,6 +12,8 @@ use Rattle.layout.specs.Meaning.{stateOf}
 use Rattle.layout.specs.Follows.{Follows}
 use Rattle.calls.specs.Reading.{chunkOfBy}
 use Rattle.calls.proofs.Readings.{get-is, chunk-of-is, chunk-of-none}
+use Rattle.calls.proofs.Ranges.{any-in-range-is}
+use Rattle.calls.proofs.Iterations.{iterate-is}
 use Rattle.calls.proofs.Counting.{len-is, empty-is, chunks-is, any-is}
 use Rattle.ranks.proofs.Ranks.{rank-is, rank-if-is, total-is}
 use Rattle.contracts.specs.Does.{AskedBy, Answers}
@@ -23,11 +25,13 @@ module _ {x : Mem} (w : Follows x) where
 
   model-right : (k : Ask) {a : Said} → AskedBy x k a → a ≡ reply (stateOf x) k
   model-right (get z) e = e ∙ ap whether (get-is w z)
+  model-right (any-in-range lo hi) e = e ∙ ap whether (any-in-range-is w lo hi)
   model-right (chunk-of z) e = e ∙ ap maybe (chunk-of-any z)
   model-right len e = e ∙ ap many (len-is w)
   model-right is-empty e = e ∙ ap whether (empty-is w)
   model-right has-any e = e ∙ ap whether (any-is w)
   model-right chunk-count e = e ∙ ap many (chunks-is w)
+  model-right (iterate z) e = e ∙ ap listed (iterate-is w z)
   model-right (rank-of z) e = e ∙ ap many (rank-is w z)
   model-right (rank-if z) e = e ∙ ap maybe (rank-if-is w z)
   model-right total-count e = e ∙ ap many (total-is w)

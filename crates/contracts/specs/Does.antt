@@ -5,8 +5,8 @@ use Rattle.sums.specs.Rules.{Decides}
 use Rattle.document.specs.State.{State, empty}
 use Rattle.document.specs.Sizes.{InRange}
 use Rattle.document.specs.Refusals.{outside-sizes, too-short}
-use Rattle.document.specs.Calls.{Call, Said, whether, many, maybe}
-use Rattle.document.specs.Calls.{Ask, get, chunk-of, len, is-empty, has-any, chunk-count, rank-of, rank-if, total-count, check}
+use Rattle.document.specs.Calls.{Call, Said, whether, many, maybe, listed}
+use Rattle.document.specs.Calls.{Ask, get, any-in-range, chunk-of, len, is-empty, has-any, chunk-count, iterate, rank-of, rank-if, total-count, check}
 use Rattle.document.specs.Answers.{answer, after, reply}
 use Rattle.document.specs.declared.sizes.Sizes.{Sizes}
 use Rattle.document.specs.declared.answer.Outcome.{Outcome}
@@ -19,6 +19,8 @@ use Rattle.layout.specs.Follows.{Follows}
 use Rattle.layout.specs.SetUp.{did, setUpBy}
 use Rattle.calls.specs.Reading.{getBy, chunkOfBy}
 use Rattle.calls.specs.Counts.{lenBy, isEmptyBy, hasAnyBy, chunksBy}
+use Rattle.calls.specs.Range.{anyBy}
+use Rattle.calls.specs.Iteration.{iterBy}
 use Rattle.ranks.specs.Rank.{rankBy, rankIfBy, totalBy}
 use Rattle.contracts.specs.Runs.{ran, ranBy}
 
@@ -46,11 +48,13 @@ pub record Checked (x : Mem) (a : Said) : Type 0 where
 -- the model of a reading call
 abbrev pub AskedBy : Mem → Ask → Said → Type 0
 AskedBy x (get z) a = a ≡ whether (getBy x z)
+AskedBy x (any-in-range lo hi) a = a ≡ whether (anyBy x lo hi)
 AskedBy x (chunk-of z) a = a ≡ maybe (chunkOfBy x z)
 AskedBy x len a = a ≡ many (lenBy x)
 AskedBy x is-empty a = a ≡ whether (isEmptyBy x)
 AskedBy x has-any a = a ≡ whether (hasAnyBy x)
 AskedBy x chunk-count a = a ≡ many (chunksBy x)
+AskedBy x (iterate z) a = a ≡ listed (iterBy x z)
 AskedBy x (rank-of z) a = a ≡ many (rankBy x z)
 AskedBy x (rank-if z) a = a ≡ maybe (rankIfBy x z)
 AskedBy x total-count a = a ≡ many (totalBy x)

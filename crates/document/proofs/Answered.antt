@@ -11,7 +11,7 @@ use Rattle.document.specs.Refusals.{is-ranked, is-open}
 use Rattle.document.specs.Insert.{done, newAnswer, preparedAnswer, inserted}
 use Rattle.document.specs.Prepare.{prepareAnswer, readied}
 use Rattle.document.specs.Calls.{Call, insert, put, prepared, prepare, rank-up, leave, Said, whether, that, many, maybe, Refuses}
-use Rattle.document.specs.Calls.{Ask, get, chunk-of, len, is-empty, has-any, chunk-count, rank-of, rank-if, total-count, check}
+use Rattle.document.specs.Calls.{Ask, get, any-in-range, chunk-of, len, is-empty, has-any, chunk-count, iterate, rank-of, rank-if, total-count, check}
 use Rattle.document.specs.Answers.{rankUpAnswer, leaveAnswer, answer, inMode, after, chunksIn, rankAnswer, rankIfAnswer, totalAnswer, reply}
 use Rattle.document.specs.declared.answer.Outcome.{Outcome}
 use Rattle.document.specs.declared.answer.Outcome.the-variants as outcome
@@ -110,14 +110,16 @@ module _ (q : State) (e : q .mode ≡ false) where
   unfolding leaveAnswer
   open-leave = rw e
 
--- membership and counts don't ask for the mode
+-- membership, range test, counts and iteration don't ask for the mode
 abbrev Reads : Ask → Bool
 Reads (get z) = true
+Reads (any-in-range lo hi) = true
 Reads (chunk-of z) = true
 Reads len = true
 Reads is-empty = true
 Reads has-any = true
 Reads chunk-count = true
+Reads (iterate z) = true
 Reads (rank-of z) = false
 Reads (rank-if z) = false
 Reads total-count = false
@@ -129,11 +131,13 @@ needs-mode e = let z : _≡_ {A = ℕ} 0 1 = cc in omega arith
 pub both-modes : (q : State) (b : Bool) (k : Ask) → Reads k ≡ true → reply (inMode q b) k ≡ reply q k
 unfolding chunksIn
 both-modes q b (get z) r = refl
+both-modes q b (any-in-range lo hi) r = refl
 both-modes q b (chunk-of z) r = refl
 both-modes q b len r = refl
 both-modes q b is-empty r = refl
 both-modes q b has-any r = refl
 both-modes q b chunk-count r = refl
+both-modes q b (iterate z) r = refl
 both-modes q b (rank-of z) r = absurd (needs-mode r)
 both-modes q b (rank-if z) r = absurd (needs-mode r)
 both-modes q b total-count r = absurd (needs-mode r)

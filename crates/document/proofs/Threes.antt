@@ -1,20 +1,22 @@
 -- No answer that document 01 gives to a call on a set is a 3. Assumes nothing.
 use mathlib.Core.Path.{_≡_}
 use mathlib.Core.Bool.{Bool, true, false, cond}
-use Prim.Native.Nat.{ℕ, _-_, _/_}
+use Prim.Native.Nat.{ℕ, _+_, _-_, _/_}
 use native.Mathlib.Omega.{arith}
 use lib.IntN.{ℤ, pos, negsuc}
-use lib.Dec.{ltb}
-use Rattle.sums.specs.Ids.{total, rank, RankIf, rankIf}
+use lib.Dec.{leb, ltb}
+use Rattle.sums.specs.Ids.{Ids, total, rank, RankIf, rankIf}
 use Rattle.sums.specs.Cuts.{parts}
+use Rattle.sums.specs.Members.{nth}
 use Rattle.document.specs.Sizes.{top}
 use Rattle.document.specs.State.{Kind, absent, sparse, dense, State}
 use Rattle.document.specs.Refusals.{is-ranked, is-open, no-room}
 use Rattle.document.specs.Room.{overflows, sparses, denses, verdict}
 use Rattle.document.specs.Insert.{grownMap, newAnswer, ifDense, preparedAnswer, done}
 use Rattle.document.specs.Prepare.{denseMap, prepareAnswer}
-use Rattle.document.specs.Calls.{Call, insert, put, prepared, prepare, rank-up, leave, Said, whether, that, many, maybe, Refuses}
-use Rattle.document.specs.Calls.{Ask, get, chunk-of, len, is-empty, has-any, chunk-count, rank-of, rank-if, total-count, check}
+use Rattle.document.specs.Iteration.{leftFrom, firstOf, listing}
+use Rattle.document.specs.Calls.{Call, insert, put, prepared, prepare, rank-up, leave, Said, whether, that, many, maybe, listed, Refuses}
+use Rattle.document.specs.Calls.{Ask, get, any-in-range, chunk-of, len, is-empty, has-any, chunk-count, iterate, rank-of, rank-if, total-count, check}
 use Rattle.document.specs.Answers.{rankUpAnswer, leaveAnswer, answer, chunkIn, perhapsRank, rankAnswer, rankIfAnswer, totalAnswer, reply}
 use Rattle.document.specs.Plan.{planOf, planAnswer}
 use Rattle.document.specs.declared.sizes.Sizes.{Sizes}
@@ -96,14 +98,21 @@ rank-if-not : (a : RankIf) → Not3 (maybe (perhapsRank a))
 rank-if-not (RankIf.ranked k) = λ e. e
 rank-if-not RankIf.none = λ e. e
 
+listing-not : (P : Ids) (z : ℤ) → Not3 (listed (listing P z))
+unfolding listing
+listing-not P z =
+    either listed (leb (leftFrom P z) 64) (firstOf P z (leftFrom P z) true z) (firstOf P z 64 false (pos (nth P (rank P z + 63) + 1))) (λ e. e) (λ e. e)
+
 pub reply-not-three : (q : State) (a : Ask) → Not3 (reply q a)
 unfolding rankAnswer rankIfAnswer totalAnswer
 reply-not-three q (get z) = λ e. e
+reply-not-three q (any-in-range lo hi) = λ e. e
 reply-not-three q (chunk-of z) = chunk-not (q .sizes) z
 reply-not-three q len = λ e. e
 reply-not-three q is-empty = λ e. e
 reply-not-three q has-any = λ e. e
 reply-not-three q chunk-count = λ e. e
+reply-not-three q (iterate z) = listing-not (q .members) z
 reply-not-three q (rank-of z) = either many (q .mode) (amount.Of (rank (q .members) z)) (amount.Refused 5) (λ e. e) (λ e. omega arith)
 reply-not-three q (rank-if z) = either maybe (q .mode) (perhapsRank (rankIf (q .members) z)) (perhaps.Refused 5) (rank-if-not (rankIf (q .members) z)) (λ e. omega arith)
 reply-not-three q total-count = either many (q .mode) (amount.Of (total (q .members))) (amount.Refused 5) (λ e. e) (λ e. omega arith)

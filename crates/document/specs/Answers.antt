@@ -3,14 +3,15 @@ use Prim.Native.Nat.{ℕ, _/_}
 use mathlib.Core.Bool.{Bool, true, false, cond, not}
 use lib.Dec.{eqb}
 use lib.IntN.{ℤ, pos, negsuc}
-use Rattle.sums.specs.Ids.{has, count, total, rank, RankIf, ranked, none, rankIf}
+use Rattle.sums.specs.Ids.{has, count, total, rank, RankIf, ranked, none, rankIf, anyInRange}
 use Rattle.document.specs.Sizes.{top, lastChunk}
 use Rattle.document.specs.State.{State, isPresent}
 use Rattle.document.specs.Refusals.{is-ranked, is-open}
 use Rattle.document.specs.Insert.{done, newAnswer, preparedAnswer, inserted}
 use Rattle.document.specs.Prepare.{prepareAnswer, readied}
-use Rattle.document.specs.Calls.{Call, insert, put, prepared, prepare, rank-up, leave, Said, whether, that, many, maybe}
-use Rattle.document.specs.Calls.{Ask, get, chunk-of, len, is-empty, has-any, chunk-count, rank-of, rank-if, total-count, check}
+use Rattle.document.specs.Iteration.{listing}
+use Rattle.document.specs.Calls.{Call, insert, put, prepared, prepare, rank-up, leave, Said, whether, that, many, maybe, listed}
+use Rattle.document.specs.Calls.{Ask, get, any-in-range, chunk-of, len, is-empty, has-any, chunk-count, iterate, rank-of, rank-if, total-count, check}
 use Rattle.document.specs.declared.sizes.Sizes.{Sizes}
 use Rattle.document.specs.declared.answer.Outcome.{Outcome}
 use Rattle.document.specs.declared.answer.Outcome.the-variants as outcome
@@ -75,11 +76,13 @@ totalAnswer q = cond (q .mode) (amount.Of (total (q .members))) (amount.Refused 
 
 abbrev pub reply : State → Ask → Said
 reply q (get z) = whether (truth.Is (has (q .members) z))
+reply q (any-in-range lo hi) = whether (truth.Is (anyInRange (q .members) lo hi))
 reply q (chunk-of z) = maybe (chunkIn (q .sizes) z)
 reply q len = many (amount.Of (total (q .members)))
 reply q is-empty = whether (truth.Is (eqb (total (q .members)) 0))
 reply q has-any = whether (truth.Is (not (eqb (chunksIn q) 0)))
 reply q chunk-count = many (amount.Of (chunksIn q))
+reply q (iterate z) = listed (listing (q .members) z)
 reply q (rank-of z) = many (rankAnswer q z)
 reply q (rank-if z) = maybe (rankIfAnswer q z)
 reply q total-count = many (totalAnswer q)

@@ -1,4 +1,5 @@
 pub mod Row
 pub mod Search
+pub mod Listed
 pub mod Edit
 pub mod Union
