@@ -19,6 +19,17 @@ pub fn refused(n: u64) -> Answer {
     Answer { kind: 2, value: n }
 }
 
+/// What iteration from a start hands back.
+#[repr(C)]
+#[derive(Clone, Copy, PartialEq, Eq, Debug)]
+pub struct Listing {
+    pub ids: [i64; 64],
+    pub count: u64,
+    pub end: bool,
+    pub next: i64,
+    pub refusal: u64,
+}
+
 #[derive(Clone, Copy, PartialEq, Eq, Debug)]
 pub struct Sizes {
     pub s: u64,
@@ -97,11 +108,13 @@ entries! {
     bp_set_prepared(id: i64) -> Answer;
     bp_pre_allocate(max: i64) -> Answer;
     bp_get(id: i64) -> Answer;
+    bp_any_in_range(min: i64, max: i64) -> Answer;
     bp_chunk_of(id: i64) -> Answer;
     bp_len() -> Answer;
     bp_is_empty() -> Answer;
     bp_has_any() -> Answer;
     bp_allocated_chunk_count() -> Answer;
+    bp_iter_from(start: i64) -> Listing;
     bp_into_ranked() -> Answer;
     bp_into_open() -> Answer;
     bp_rank(id: i64) -> Answer;

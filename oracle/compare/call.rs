@@ -19,11 +19,13 @@ pub enum Call {
     Put(i64),
     Prepare(i64),
     Get(i64),
+    Any(i64, i64),
     Len,
     Chunks,
     Empty,
     Has,
     Chunk(i64),
+    Iter(i64),
     RankUp,
     Open,
     Rank(i64),
@@ -46,11 +48,13 @@ impl Call {
             Call::Put(id) => format!("put {k} {id}"),
             Call::Prepare(max) => format!("prepare {k} {max}"),
             Call::Get(id) => format!("get {k} {id}"),
+            Call::Any(min, max) => format!("any {k} {min} {max}"),
             Call::Len => format!("len {k}"),
             Call::Chunks => format!("chunks {k}"),
             Call::Empty => format!("empty {k}"),
             Call::Has => format!("has {k}"),
             Call::Chunk(id) => format!("chunk {k} {id}"),
+            Call::Iter(start) => format!("iter {k} {start}"),
             Call::RankUp => format!("rankup {k}"),
             Call::Open => format!("open {k}"),
             Call::Rank(id) => format!("rank {k} {id}"),
@@ -84,6 +88,8 @@ pub enum Said {
     Nothing,
     Refused(u64),
     Planned(Record, Vec<i64>),
+    /// A record of iteration: its ids, the end mark, the next start.
+    Listed { ids: Vec<i64>, end: bool, next: i64 },
     /// What `ids` and `ranks` say of a partition.
     Part { ids: Result<(i64, Option<i64>), u64>, ranks: Result<(u64, u64), u64> },
 }
@@ -110,6 +116,10 @@ impl fmt::Display for Said {
             Said::Planned(r, bounds) => {
                 write!(f, "{} {} {}", r.total, r.slots, r.partitions)?;
                 bounds.iter().try_for_each(|b| write!(f, " {b}"))
+            }
+            Said::Listed { ids, end, next } => {
+                write!(f, "{} {end} {next}", ids.len())?;
+                ids.iter().try_for_each(|id| write!(f, " {id}"))
             }
             // as replay says it: where both answer, else what `ids` refuses with
             Said::Part { ids: Err(c), .. } | Said::Part { ranks: Err(c), .. } => write!(f, "refused {c}"),

@@ -1,6 +1,6 @@
 //! The library linked through `exports`: each call is compared at once, memory after each refusal and each plan, elements past the sizes at the end.
 use crate::call::{Call, Record, Said, Sizes};
-use crate::library::{Answer, Memory};
+use crate::library::{Answer, Listing, Memory};
 use crate::locations;
 use crate::planning;
 use crate::rust::BOUNDARIES;
@@ -54,6 +54,17 @@ fn perhaps(a: Answer) -> Said {
     }
 }
 
+/// Unused places hold 0, and beside a refusal so does every field.
+fn listed(r: Listing) -> Said {
+    let used = r.count as usize;
+    assert!(used <= 64 && r.ids[used..].iter().all(|&id| id == 0), "an unused place of a record is not 0");
+    if r.refusal == 0 {
+        return Said::Listed { ids: r.ids[..used].to_vec(), end: r.end, next: r.next };
+    }
+    assert!(used == 0 && !r.end && r.next == 0, "a field beside a refusal is not 0");
+    Said::Refused(r.refusal)
+}
+
 impl Set {
     fn answer(&mut self, call: &Call) -> Said {
         let x = &mut self.memory;
@@ -65,11 +76,13 @@ impl Set {
             Call::Put(id) => truth(x.bp_set_prepared(id)),
             Call::Prepare(max) => ok(x.bp_pre_allocate(max)),
             Call::Get(id) => truth(x.bp_get(id)),
+            Call::Any(min, max) => truth(x.bp_any_in_range(min, max)),
             Call::Len => number(x.bp_len()),
             Call::Chunks => number(x.bp_allocated_chunk_count()),
             Call::Empty => truth(x.bp_is_empty()),
             Call::Has => truth(x.bp_has_any()),
             Call::Chunk(id) => perhaps(x.bp_chunk_of(id)),
+            Call::Iter(start) => listed(x.bp_iter_from(start)),
             Call::RankUp => ok(x.bp_into_ranked()),
             Call::Open => ok(x.bp_into_open()),
             Call::Rank(id) => number(x.bp_rank(id)),

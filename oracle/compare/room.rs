@@ -80,6 +80,12 @@ impl Room {
         self.split(id).is_some_and(|(c, _)| c >= self.sizes.d && self.chunks.get(&c).is_some_and(|k| k.dense))
     }
 
+    /// Whether an empty dense chunk lies between those of two ids.
+    pub fn empty_between(&self, first: i64, last: i64) -> bool {
+        let chunk = |id| self.split(id).map_or(0, |(c, _)| c);
+        self.chunks.range(chunk(first)..=chunk(last)).any(|(_, k)| k.dense && k.offsets.is_empty())
+    }
+
     /// Takes the id in, or says the refusal.
     pub fn insert(&mut self, id: i64, tally: &mut Tally) -> Result<(), u64> {
         let Some((c, o)) = self.split(id) else { return Ok(()) };

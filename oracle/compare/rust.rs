@@ -56,6 +56,8 @@ impl Side {
             Call::Bounded(claim, length, per) => Said::Signed(IdSet::file_bounded_max_id(claim, length, per)),
             _ if self.room.is_none() => Said::Refused(3),
             Call::Get(id) => Said::Truth(self.get(id)),
+            Call::Any(min, max) => Said::Truth(self.any(min, max, tally)),
+            Call::Iter(start) => self.listed(start, tally),
             Call::Len => Said::Number(self.set.len()),
             Call::Chunks => Said::Number(self.set.allocated_chunk_count() as u64),
             Call::Empty => Said::Truth(self.set.is_empty()),
@@ -82,6 +84,35 @@ impl Side {
         let open = self.set.get(id);
         assert!(self.ranked.as_ref().is_none_or(|r| r.get(id) == open), "the Rust's two forms differ");
         open
+    }
+
+    fn any(&self, min: i64, max: i64, tally: &mut Tally) -> bool {
+        let hit = self.set.any_in_range(min, max);
+        tally.ranges[usize::from(hit)] += 1;
+        tally.inverted_ranges += u64::from(min > max);
+        hit
+    }
+
+    /// The first 64 of the Rust's iterator, and one more for the mark.
+    fn listed(&self, start: i64, tally: &mut Tally) -> Said {
+        let mut ids: Vec<i64> = match &self.ranked {
+            Some(ranked) => ranked.iter_from(start).take(66).collect(),
+            None => self.set.iter_from(start).take(66).collect(),
+        };
+        if let (left @ 63..=65, Some(room)) = (ids.len(), &self.room) {
+            tally.left[left - 63] += 1;
+            tally.over_empty += u64::from(room.empty_between(ids[0], ids[left - 1]));
+        }
+        let end = ids.len() <= 64;
+        ids.truncate(64);
+        let next = if end { start } else { ids[63] + 1 };
+        Said::Listed { ids, end, next }
+    }
+
+    /// The n-th member from the end, where it is there and there are few.
+    pub fn from_end(&self, n: usize) -> Option<i64> {
+        let total = self.set.len() as usize;
+        (n..5000).contains(&total).then(|| self.set.iter().nth(total - n)).flatten()
     }
 
     fn open_call(&mut self, call: &Call, tally: &mut Tally) -> Said {

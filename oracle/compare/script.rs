@@ -126,8 +126,34 @@ impl<'a> Script<'a> {
     }
 
     fn read(&mut self, k: usize, id: i64) -> Said {
-        let call = self.random.one_of(&[Call::Get(id), Call::Get(id), Call::Chunk(id), Call::Len, Call::Empty, Call::Has, Call::Chunks]);
+        let any = self.range(id);
+        let call = self.random.one_of(&[Call::Get(id), Call::Get(id), any, any, Call::Chunk(id), Call::Iter(id), Call::Len, Call::Empty, Call::Has, Call::Chunks]);
         self.say(k, call)
+    }
+
+    /// A range that begins or ends at an id: of one id, up to a chunk away, to an end of i64, or to any other edge, at times the wrong way round.
+    fn range(&mut self, id: i64) -> Call {
+        let (z, g) = (self.sizes, &mut self.random);
+        let other = match g.below(8) {
+            0 => id,
+            1 => i64::MIN,
+            2 => i64::MAX,
+            3 => id.saturating_add(g.below(2 << z.s) as i64),
+            4 => id.saturating_sub(g.below(2 << z.s) as i64),
+            _ => g.id(z, 4 << z.s),
+        };
+        if g.one_in(8) { Call::Any(id.max(other), id.min(other)) } else { Call::Any(id.min(other), id.max(other)) }
+    }
+
+    /// Records from a start that leaves 63, 64 or 65 members, or any start, each from where the last one said.
+    fn iterate(&mut self, k: usize, id: i64) {
+        let left = 63 + self.random.below(3) as usize;
+        let near = self.sides[k].from_end(left).unwrap_or(id);
+        let mut start = self.random.one_of(&[id, near, near]);
+        for _ in 0..4 {
+            let Said::Listed { end: false, next, .. } = self.say(k, Call::Iter(start)) else { return };
+            start = next;
+        }
     }
 
     /// A burst of m - 1, m or m + 1 members into a chunk that is likely to be there: a low one, the last direct one, or one of the first with an overflow entry.
@@ -263,6 +289,8 @@ impl<'a> Script<'a> {
             }
             self.say(1, Call::Plan { slots: 1, room: 1 });
             (0..9).for_each(|id| _ = self.read(1, id));
+            self.say(1, Call::Any(0, 0));
+            self.say(1, Call::Iter(0));
         }
         let spread = ((1 << self.sizes.s) * (1 + self.random.below(6)) / (1 + self.random.below(40))).max(1);
         self.set_up(0);
@@ -279,6 +307,7 @@ impl<'a> Script<'a> {
                 0 => self.pure(),
                 1 if !self.held => self.set_up(k),
                 2 => _ = self.say(k, Call::Check),
+                3..=5 => self.iterate(k, id),
                 _ if self.sides[k].is_ranked() => self.ask(k, id),
                 _ => self.grow(k, id),
             }
@@ -321,14 +350,26 @@ impl<'a> Script<'a> {
         }
     }
 
+    /// Ranges of one id, and from each of these ids, which rise, to the next one and back; records from some.
+    fn ask_ranges(&mut self, ids: &[i64]) {
+        for pair in ids.windows(2) {
+            self.say(0, Call::Any(pair[0], pair[0]));
+            self.say(0, Call::Any(pair[0], pair[1]));
+            self.say(0, Call::Any(pair[1], pair[0]));
+        }
+        ids.iter().step_by(3).for_each(|&id| _ = self.say(0, Call::Iter(id)));
+    }
+
     /// Everything about these ids, in the form that the set has, then ranked, then open again.
     fn ask_all(&mut self, ids: &[i64]) {
         for call in [Call::Check, Call::Len, Call::Empty, Call::Has, Call::Chunks] {
             self.say(0, call);
         }
         ids.iter().for_each(|&id| _ = self.say(0, Call::Get(id)));
+        self.ask_ranges(ids);
         self.say(0, Call::RankUp);
         self.say(0, Call::Check);
+        self.ask_ranges(ids);
         for &id in ids {
             self.say(0, Call::Rank(id));
             self.say(0, Call::RankIf(id));

@@ -15,6 +15,12 @@ pub struct Tally {
     pub overflow_ranks: u64,
     /// Plans with two boundaries or more.
     pub several_boundaries: u64,
+    /// Range tests that miss and that hit, those whose ends are the wrong way round.
+    pub ranges: [u64; 2],
+    pub inverted_ranges: u64,
+    /// Records with exactly 63, 64, 65 members left, and those of them that go over an empty dense chunk.
+    pub left: [u64; 3],
+    pub over_empty: u64,
     /// Partitions whose `ids` refuses, boundaries being too few, and whose `ranks` answers.
     pub ranks_alone: u64,
 }
@@ -26,6 +32,8 @@ impl Tally {
     fn kinds(&self) -> Vec<(String, u64)> {
         let refusals = Self::REFUSALS.iter().map(|&c| (format!("refused {c}"), self.refusals[c]));
         let [direct, overflow] = self.promotions;
+        let [miss, hit] = self.ranges;
+        let [left_63, left_64, left_65] = self.left;
         let others = [
             ("promoted direct chunks", direct),
             ("promoted overflow chunks", overflow),
@@ -33,6 +41,13 @@ impl Tally {
             ("ranks in dense overflow chunks", self.overflow_ranks),
             ("plans with several boundaries", self.several_boundaries),
             ("ranks where ids refuses", self.ranks_alone),
+            ("range tests that miss", miss),
+            ("range tests that hit", hit),
+            ("ranges the wrong way round", self.inverted_ranges),
+            ("records with 63 left", left_63),
+            ("records with 64 left", left_64),
+            ("records with 65 left", left_65),
+            ("records over an empty dense chunk", self.over_empty),
         ];
         refusals.chain(others.map(|(name, n)| (name.to_string(), n))).collect()
     }

@@ -27,6 +27,7 @@ pub enum Perhaps {
 
 // Up to 64 member ids, ascending, with zeros in unused places; whether none is left out, and where the next record starts. A refusal has a field of its own, 0 where
 // there is none, and every other field is 0 beside one.
+#[repr(C)]
 pub struct Listing {
     pub ids: [i64; 64],
     pub count: u64,

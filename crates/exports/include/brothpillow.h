@@ -2,7 +2,7 @@
  *
  * Calling convention. A lent slice is two arguments: a pointer, then its number of elements (not of bytes). A pointer to no elements is aligned
  * and not null. Slices of one call don't overlap where one of them is written. Numbers are of the widths below; a bool is C's _Bool. An answer
- * comes back by value, as the platform's C returns a struct: each is a row of 64-bit fields in the order below, without gaps; bp_answer in two registers,
+ * comes back by value, as the platform's C returns a struct: each is a row of 64-bit fields in the order below, without gaps (bp_listing has an array and a bool among them); bp_answer in two registers,
  * the longer ones in memory that the caller's compiler names. No call keeps a pointer, allocates, or has state of its own.
  *
  * Four slices hold a set and are lent together, in this order: pages (64 bits), rows (32), block counts (32), table (64). */
@@ -41,8 +41,9 @@ bp_answer bp_set_prepared(BP_SET_MUT, int64_t id);
 /* Every chunk from 0 to the maximum's becomes dense. */
 bp_answer bp_pre_allocate(BP_SET_MUT, int64_t max);
 
-/* Membership, yes or no; the chunk id of an id, or none. */
+/* Membership, and whether a member lies in min to max, both included: yes or no; the chunk id of an id, or none. */
 bp_answer bp_get(BP_SET, int64_t id);
+bp_answer bp_any_in_range(BP_SET, int64_t min, int64_t max);
 bp_answer bp_chunk_of(BP_SET, int64_t id);
 
 /* Members: a number, and whether there is none. Chunks, empty ones too: whether there is one, and a number. */
@@ -50,6 +51,17 @@ bp_answer bp_len(BP_SET);
 bp_answer bp_is_empty(BP_SET);
 bp_answer bp_has_any(BP_SET);
 bp_answer bp_allocated_chunk_count(BP_SET);
+
+/* Up to 64 member ids, ascending, unused places 0. end: no member at or above the start is left out, and next is that start; else next is where to go on.
+ * refusal: 0, or 3 with every other field 0. */
+typedef struct {
+    int64_t ids[64];
+    uint64_t count;
+    bool end;
+    int64_t next;
+    uint64_t refusal;
+} bp_listing;
+bp_listing bp_iter_from(BP_SET, int64_t start);
 
 /* The ranked form: counts for ranks, and leaving it. Only block counts and table are written. */
 #define BP_SET_COUNTS const uint64_t *pages, size_t pages_n, const uint32_t *rows, size_t rows_n, uint32_t *blocks, size_t blocks_n, uint64_t *table, size_t table_n

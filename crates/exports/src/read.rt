@@ -4,15 +4,18 @@ ghost use Rattle.document.specs.declared.answer.Truth.{Truth};
 ghost use Rattle.document.specs.declared.answer.Truth.the-variants.{Is};
 ghost use Rattle.document.specs.declared.answer.Amount.{Amount};
 ghost use Rattle.document.specs.declared.answer.Perhaps.{Perhaps};
-ghost use Rattle.document.specs.Calls.{get, chunk-of, len, is-empty, has-any, chunk-count, rank-of, rank-if, total-count, check};
-ghost use Rattle.document.specs.Calls.{whether, many, maybe};
+ghost use Rattle.document.specs.Calls.{get, any-in-range, chunk-of, len, is-empty, has-any, chunk-count, iterate, rank-of, rank-if, total-count, check};
+ghost use Rattle.document.specs.Calls.{whether, many, maybe, listed};
 ghost use Rattle.contracts.specs.Does.{Answers};
 ghost use Rattle.exports.specs.Codes.{Coded, truthCode, amountCode, perhapsCode};
 use crate::answer;
 use crate::answer::Answer;
+use document::answer::Listing;
 use idset::count;
 use idset::read;
 use ranked::rank;
+use scan::listing;
+use scan::range;
 
 // The full check: whether memory follows the layout.
 #[no_mangle]
@@ -35,6 +38,22 @@ pub extern "C" fn bp_get(
         Coded truthCode (λ (a : Truth). Answers x (get id) (whether a)) r) ⌝ }
 {
     answer::of_truth(read::get(pages, rows, blocks, table, id))
+}
+
+// Whether a member lies in min to max, both included.
+#[no_mangle]
+pub extern "C" fn bp_any_in_range(
+    pages: &[u64],
+    rows: &[u32],
+    blocks: &[u32],
+    table: &[u64],
+    min: i64,
+    max: i64,
+) -> Answer
+    ensures { λ r. ⌜ (let x = memOf (pages .entry) (rows .entry) (blocks .entry) (table .entry) in
+        Coded truthCode (λ (a : Truth). Answers x (any-in-range min max) (whether a)) r) ⌝ }
+{
+    answer::of_truth(range::any_in_range(pages, rows, blocks, table, min, max))
 }
 
 // The chunk that an id lives in, or none.
@@ -91,6 +110,20 @@ pub extern "C" fn bp_allocated_chunk_count(
         Coded amountCode (λ (a : Amount). Answers x chunk-count (many a)) r) ⌝ }
 {
     answer::of_amount(count::allocated_chunk_count(pages, rows, blocks, table))
+}
+
+// The 64 smallest members not below start, or all if fewer. The record is C's own as it stands.
+#[no_mangle]
+pub extern "C" fn bp_iter_from(
+    pages: &[u64],
+    rows: &[u32],
+    blocks: &[u32],
+    table: &[u64],
+    start: i64,
+) -> Listing
+    ensures { λ r. ⌜ (let x = memOf (pages .entry) (rows .entry) (blocks .entry) (table .entry) in Answers x (iterate start) (listed r)) ⌝ }
+{
+    listing::iter_from(pages, rows, blocks, table, start)
 }
 
 // The members below an id, in a ranked set.

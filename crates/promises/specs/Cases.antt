@@ -1,4 +1,4 @@
--- Document 01's worked cases: a to e and j at its tiny sizes, and crate sums' e to i about plain sets, rows of one table.
+-- Document 01's worked cases: a to e, i and j at its tiny sizes, and crate sums' e to i about plain sets, rows of one table.
 use mathlib.Core.Path.{_≡_}
 use Prim.Native.Nat.{ℕ, _-_, _^_}
 use mathlib.Core.List.{List, [], _∷_, _++_}
@@ -17,7 +17,7 @@ use Rattle.document.specs.declared.answer.Truth.the-variants as truth
 use Rattle.document.specs.declared.answer.Amount.the-variants as amount
 use Rattle.document.specs.declared.answer.Perhaps.the-variants as perhaps
 use Rattle.document.specs.Answers.{answer, after, reply}
-use Rattle.document.specs.Calls.{Call, insert, prepared, prepare, rank-up, Said, whether, that, many, maybe, Ask, len, has-any, rank-of, rank-if}
+use Rattle.document.specs.Calls.{Call, insert, prepared, prepare, rank-up, Said, whether, that, many, maybe, Ask, any-in-range, len, has-any, rank-of, rank-if}
 use Rattle.contracts.specs.Runs.{ranBy}
 use Rattle.contracts.specs.Does.{Answers}
 
@@ -104,6 +104,9 @@ twoFull = inserts (0 ∷ 1 ∷ 2 ∷ 3 ∷ 512 ∷ 513 ∷ 514 ∷ 515 ∷ [])
 abbrev rankedFour : List Call
 rankedFour = inserts (0 ∷ 5 ∷ 7 ∷ 9 ∷ []) ++ (rank-up ∷ [])
 
+abbrev zeroAlone : List Call
+zeroAlone = inserts (0 ∷ [])
+
 abbrev ready : List Call
 ready = prepare (pos 511) ∷ []
 
@@ -135,6 +138,13 @@ memoryRows =
     ∷ asks rankedFour (rank-of (pos (2 ^ 63 - 1))) (many (amount.Of 4))
     ∷ asks rankedFour (rank-if (pos 7)) (maybe (perhaps.Of 2))
     ∷ asks rankedFour (rank-if (pos 8)) (maybe perhaps.Nothing)
+    -- i, and of a ranked set
+    ∷ asks zeroAlone (any-in-range (negsuc (2 ^ 63 - 1)) (pos (2 ^ 63 - 1))) yes
+    ∷ asks zeroAlone (any-in-range (negsuc 4) (pos 0)) yes
+    ∷ asks zeroAlone (any-in-range (pos 1) (pos 0)) no
+    ∷ asks zeroAlone (any-in-range (negsuc 4) minusOne) no
+    ∷ asks rankedFour (any-in-range (pos 1) (pos 4)) no
+    ∷ asks rankedFour (any-in-range (pos 1) (pos 5)) yes
     -- j
     ∷ asks ready has-any yes
     ∷ asks ready len (many (amount.Of 0))
