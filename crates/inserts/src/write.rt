@@ -20,7 +20,7 @@ use document::sizes::Sizes;
 use layout::head;
 use layout::place;
 use layout::write;
-use numbers::place as element;
+use numbers::element;
 use numbers::power;
 use steps::turn;
 
