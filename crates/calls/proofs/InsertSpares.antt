@@ -86,7 +86,7 @@ module _ (x : Mem) (c o : ℕ) where
   turned-long r l p s =
       let page = pagePart (head x) (x .pages) p in
       let row = rowPart (head x) (x .rows) r in
-      length-with (withRow page 0 row (top (head x)) l) o ∙ length-row page 0 row (top (head x)) l ∙ page-long p s
+      length-with (withRow page row (top (head x)) l) o ∙ length-row page row (top (head x)) l ∙ page-long p s
 
   inserted-long : (r l k : ℕ) → RowSlot (head x) x r → k ≤ l → l < head x .m → length (insertedAt (rowPart (head x) (x .rows) r) l k o) ≡ head x .m
   inserted-long r l k s place short = let e = row-long r s in length-inserted (rowPart (head x) (x .rows) r) l k o place (omega arith) ∙ e

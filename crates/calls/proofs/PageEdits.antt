@@ -54,24 +54,24 @@ free-bits xs i n k l r z o =
 
 module _ (h : Sizes) (z : InRange h) (page row : List ℕ) (l : ℕ) (long : length page ≡ wide h) (clear : (o : ℕ) → bit page o ≡ 0) (w : Listed h row l) where
   abbrev filled : List ℕ
-  filled = withRow page 0 row (top h) l
+  filled = withRow page row (top h) l
 
   pub length-filled : length filled ≡ wide h
-  length-filled = length-row page 0 row (top h) l ∙ long
+  length-filled = length-row page row (top h) l ∙ long
 
-  place-is : (i : ℕ) → i < l → 0 + getD row i 0 % top h ≡ getD row i 0
-  place-is i m = let e = mod-eq-of-lt (w .below i m) in omega arith
+  place-is : (i : ℕ) → i < l → getD row i 0 % top h ≡ getD row i 0
+  place-is i m = mod-eq-of-lt (w .below i m)
 
   pub set-filled : (o : ℕ) → isSet filled o ≡ member (rowOf row) l o
   set-filled o =
       let t = wide-top h z in
       same-test (isSet filled o) (member (rowOf row) l o)
-      (row-decides page 0 row (top h) (omega arith) (pow-pos (h .s)) l o)
+      (row-decides page row (top h) (omega arith) (pow-pos (h .s)) l o)
       (member-of (rowOf row) l o)
       to
       (λ q. inr (q .0, q .1, place-is (q .0) (q .1) ∙ q .2))
     where
-      to : (bit page o ≡ 1) ⊎ ((i : ℕ) × (i < l) × (0 + getD row i 0 % top h ≡ o)) → (i : ℕ) × (i < l) × (getD row i 0 ≡ o)
+      to : (bit page o ≡ 1) ⊎ ((i : ℕ) × (i < l) × (getD row i 0 % top h ≡ o)) → (i : ℕ) × (i < l) × (getD row i 0 ≡ o)
       to (inl e) = absurd (let c = clear o in omega arith)
       to (inr q) = (q .0, q .1, sym (place-is (q .0) (q .1)) ∙ q .2)
 

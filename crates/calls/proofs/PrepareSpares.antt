@@ -60,8 +60,8 @@ module _ (x : Mem) (c : ℕ) (a : HasRoom x c) (n : ℕ) (le : n ≤ c) (y : Mem
       let l = there (Sparse r k) e refl in
       let page = pagePart (head y) (y .pages) free in
       let row = rowPart (head y) (y .rows) r in
-      paged-spare (head y) y n entry (Sparse r k) free (withRow page 0 row (top (head y)) k) (row-slot (head y) y (w .room) r (row-of w n r k e .there))
-      (page-slot (head y) y (w .room) free l) (length-row page 0 row (top (head y)) k ∙ page-length (head y) y (w .room) free l)
+      paged-spare (head y) y n entry (Sparse r k) free (withRow page row (top (head y)) k) (row-slot (head y) y (w .room) r (row-of w n r k e .there))
+      (page-slot (head y) y (w .room) free l) (length-row page row (top (head y)) k ∙ page-length (head y) y (w .room) free l)
   into-spare (Dense p) e = spare-same
 
   turn-spare : Spare (head x) y (densed (head x) y n)

@@ -185,13 +185,13 @@ module _ (x : Mem) (mode : ranked x ≡ false) (c n : ℕ) (le : n ≤ c) (far :
   blank l = page-length (head y) y (w .room) free l
 
   filled : (r l : ℕ) → lowestPage (head y) y < head y .p
-      → length (withRow (pagePart (head y) (y .pages) free) 0 (rowPart (head y) (y .rows) r) (top (head y)) l) ≡ wide (head y)
-  filled r l there = length-row (pagePart (head y) (y .pages) free) 0 (rowPart (head y) (y .rows) r) (top (head y)) l ∙ blank there
+      → length (withRow (pagePart (head y) (y .pages) free) (rowPart (head y) (y .rows) r) (top (head y)) l) ≡ wide (head y)
+  filled r l there = length-row (pagePart (head y) (y .pages) free) (rowPart (head y) (y .rows) r) (top (head y)) l ∙ blank there
 
   reached-into : (q : Place) → placeOf (head y) (y .table) n ≡ q → Reached x (suc n) (intoPage (head y) y n free q)
   reached-into Absent e = reached-paged Absent e refl (pagePart (head y) (y .pages) free) (blank (place-free Absent e refl))
   reached-into (Sparse r l) e =
-      reached-paged (Sparse r l) e refl (withRow (pagePart (head y) (y .pages) free) 0 (rowPart (head y) (y .rows) r) (top (head y)) l)
+      reached-paged (Sparse r l) e refl (withRow (pagePart (head y) (y .pages) free) (rowPart (head y) (y .rows) r) (top (head y)) l)
       (filled r l (place-free (Sparse r l) e refl))
   reached-into (Dense p) e = record { walked = w; sizes = s .sizes; mode = s .mode; map = same-map (kind-at (Dense p) e) }
 
@@ -202,7 +202,7 @@ module _ (x : Mem) (mode : ranked x ≡ false) (c n : ℕ) (le : n ≤ c) (far :
   into-owner : (q : Place) → placeOf (head y) (y .table) n ≡ q → (j : ℕ) → j ≢ free → pageOwner (head y) (intoPage (head y) y n free q .table) j ≡ owner j
   into-owner Absent e = owner-kept Absent e refl (pagePart (head y) (y .pages) free) (blank (place-free Absent e refl))
   into-owner (Sparse r l) e =
-      owner-kept (Sparse r l) e refl (withRow (pagePart (head y) (y .pages) free) 0 (rowPart (head y) (y .rows) r) (top (head y)) l)
+      owner-kept (Sparse r l) e refl (withRow (pagePart (head y) (y .pages) free) (rowPart (head y) (y .rows) r) (top (head y)) l)
       (filled r l (place-free (Sparse r l) e refl))
   into-owner (Dense p) e = λ j d. refl
 

@@ -108,7 +108,7 @@ module _ (x : Mem) (mode : ranked x ≡ false) (c n : ℕ) (le : n ≤ c) (far :
       let long = page-length (head y) y (w .room) free there in
       record {
         there = there;
-        page = withRow blank 0 row (top (head y)) l;
+        page = withRow blank row (top (head y)) l;
         ok =
             record {
               set = record { follows = w; mode = is-open x mode c n le far y r over pages; chunk = inside x mode c n le far y r over pages };

@@ -72,7 +72,7 @@ module _ {x : Mem} {n : ℕ} (i : Into x n) (r l : ℕ) (e : placed x n ≡ Spar
     blank = pagePart (head x) (x .pages) (freePage x)
 
     abbrev page′ : List ℕ
-    page′ = withBit (withRow blank 0 row (top (head x)) l) (offset x n)
+    page′ = withBit (withRow blank row (top (head x)) l) (offset x n)
 
     owner : pageOwner (head x) (x .table) (freePage x) ≡ 0
     owner = first-free (pageOwner (head x) (x .table)) 0 (head x .p) .free (omega arith)

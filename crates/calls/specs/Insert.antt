@@ -113,7 +113,7 @@ entered x c o r l k =
 
 -- page p with the l members of row r and offset o
 abbrev pub turned : Mem → ℕ → ℕ → ℕ → ℕ → List ℕ
-turned x o r l p = withBit (withRow (pagePart (head x) (x .pages) p) 0 (rowPart (head x) (x .rows) r) (top (head x)) l) o
+turned x o r l p = withBit (withRow (pagePart (head x) (x .pages) p) (rowPart (head x) (x .rows) r) (top (head x)) l) o
 
 -- the plan for offset o of chunk c, carried out
 abbrev pub acted : Mem → ℕ → ℕ → Plan → Told

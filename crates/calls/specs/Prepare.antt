@@ -31,7 +31,7 @@ lowestPage h x = firstFree (pageOwner h (x .table)) 0 (h .p)
 -- chunk c into page p, with the members of its row; a dense one stays where it is
 abbrev pub intoPage : Sizes → Mem → ℕ → ℕ → Place → Mem
 intoPage h x c p Absent = paged h x c Absent p (pagePart h (x .pages) p)
-intoPage h x c p (Sparse r l) = paged h x c (Sparse r l) p (withRow (pagePart h (x .pages) p) 0 (rowPart h (x .rows) r) (top h) l)
+intoPage h x c p (Sparse r l) = paged h x c (Sparse r l) p (withRow (pagePart h (x .pages) p) (rowPart h (x .rows) r) (top h) l)
 intoPage h x c p (Dense q) = x
 
 -- chunk c made dense: it takes the lowest free page

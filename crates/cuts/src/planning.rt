@@ -11,8 +11,8 @@ use crate::search;
 use document::plan::Plan;
 use document::plan::Planning;
 use layout::walk;
+use numbers::element;
 use numbers::order;
-use numbers::place as element;
 
 // Boundaries 1 to n.
 fn fill(

@@ -157,58 +157,58 @@ bit-zeros n o = ap (λ (w : ℕ). digit w (o % 64)) (getD-zeros n (o / 64)) ∙ 
 
 -- ---- a row's bits set
 
-module _ (ws : List ℕ) (base : ℕ) (row : List ℕ) (u : ℕ) where
-  pub length-row : (n : ℕ) → length (withRow ws base row u n) ≡ length ws
+module _ (ws row : List ℕ) (u : ℕ) where
+  pub length-row : (n : ℕ) → length (withRow ws row u n) ≡ length ws
   unfolding withRow
   length-row zero = refl
-  length-row (suc n) = length-with (withRow ws base row u n) (base + getD row n 0 % u) ∙ length-row n
+  length-row (suc n) = length-with (withRow ws row u n) (getD row n 0 % u) ∙ length-row n
 
-  pub bit-row-kept : (n j : ℕ) → bit ws j ≡ 1 → bit (withRow ws base row u n) j ≡ 1
+  pub bit-row-kept : (n j : ℕ) → bit ws j ≡ 1 → bit (withRow ws row u n) j ≡ 1
   unfolding withRow
   bit-row-kept zero j e = e
-  bit-row-kept (suc n) j e = bit-with-kept (withRow ws base row u n) (base + getD row n 0 % u) j (bit-row-kept n j e)
+  bit-row-kept (suc n) j e = bit-with-kept (withRow ws row u n) (getD row n 0 % u) j (bit-row-kept n j e)
 
-  pub bit-row-other : (n j : ℕ) → ((i : ℕ) → i < n → j ≢ base + getD row i 0 % u) → bit (withRow ws base row u n) j ≡ bit ws j
+  pub bit-row-other : (n j : ℕ) → ((i : ℕ) → i < n → j ≢ getD row i 0 % u) → bit (withRow ws row u n) j ≡ bit ws j
   unfolding withRow
   bit-row-other zero j h = refl
-  bit-row-other (suc n) j h = bit-with-other (withRow ws base row u n) (base + getD row n 0 % u) j (h n (omega arith)) ∙ bit-row-other n j (λ i l. h i (omega arith))
+  bit-row-other (suc n) j h = bit-with-other (withRow ws row u n) (getD row n 0 % u) j (h n (omega arith)) ∙ bit-row-other n j (λ i l. h i (omega arith))
 
-  module _ (fits : base + u ≤ 64 * length ws) (some : 0 < u) where
-    inside : (n i : ℕ) → base + getD row i 0 % u < 64 * length (withRow ws base row u n)
+  module _ (fits : u ≤ 64 * length ws) (some : 0 < u) where
+    inside : (n i : ℕ) → getD row i 0 % u < 64 * length (withRow ws row u n)
     inside n i = let l = mod-lt (getD row i 0) some in omega (arith, length-row n)
 
-    new : (n i : ℕ) → (i < n) ⊎ (i ≡ n) → (i < n → bit (withRow ws base row u n) (base + getD row i 0 % u) ≡ 1) → bit (withBit (withRow ws base row u n) (base + getD row n 0 % u)) (base + getD row i 0 % u) ≡ 1
-    new n i (inl m) r = bit-with-kept (withRow ws base row u n) (base + getD row n 0 % u) (base + getD row i 0 % u) (r m)
-    new n i (inr e) r = ap (λ (k : ℕ). bit (withBit (withRow ws base row u n) (base + getD row n 0 % u)) (base + getD row k 0 % u)) e ∙ bit-with-same (withRow ws base row u n) (base + getD row n 0 % u) (inside n n)
+    new : (n i : ℕ) → (i < n) ⊎ (i ≡ n) → (i < n → bit (withRow ws row u n) (getD row i 0 % u) ≡ 1) → bit (withBit (withRow ws row u n) (getD row n 0 % u)) (getD row i 0 % u) ≡ 1
+    new n i (inl m) r = bit-with-kept (withRow ws row u n) (getD row n 0 % u) (getD row i 0 % u) (r m)
+    new n i (inr e) r = ap (λ (k : ℕ). bit (withBit (withRow ws row u n) (getD row n 0 % u)) (getD row k 0 % u)) e ∙ bit-with-same (withRow ws row u n) (getD row n 0 % u) (inside n n)
 
-    pub bit-row-new : (n i : ℕ) → i < n → bit (withRow ws base row u n) (base + getD row i 0 % u) ≡ 1
+    pub bit-row-new : (n i : ℕ) → i < n → bit (withRow ws row u n) (getD row i 0 % u) ≡ 1
     unfolding withRow
     bit-row-new zero i l = absurd (omega arith)
     bit-row-new (suc n) i l = new n i (last-or i n l) (bit-row-new n i)
 
     abbrev Either : ℕ → ℕ → Type 0
-    Either n o = (bit ws o ≡ 1) ⊎ ((i : ℕ) × (i < n) × (base + getD row i 0 % u ≡ o))
+    Either n o = (bit ws o ≡ 1) ⊎ ((i : ℕ) × (i < n) × (getD row i 0 % u ≡ o))
 
-    only : (n o : ℕ) → (t : Bool) → eqb o (base + getD row n 0 % u) ≡ t → bit (withBit (withRow ws base row u n) (base + getD row n 0 % u)) o ≡ 1 → (bit (withRow ws base row u n) o ≡ 1 → Either n o) → Either (suc n) o
-    only n o true h e r = inr (n, omega arith, sym (eqb-true o (base + getD row n 0 % u) h))
-    only n o false h e r = more (r (sym (bit-with-other (withRow ws base row u n) (base + getD row n 0 % u) o (eqb-false o (base + getD row n 0 % u) h)) ∙ e))
+    only : (n o : ℕ) → (t : Bool) → eqb o (getD row n 0 % u) ≡ t → bit (withBit (withRow ws row u n) (getD row n 0 % u)) o ≡ 1 → (bit (withRow ws row u n) o ≡ 1 → Either n o) → Either (suc n) o
+    only n o true h e r = inr (n, omega arith, sym (eqb-true o (getD row n 0 % u) h))
+    only n o false h e r = more (r (sym (bit-with-other (withRow ws row u n) (getD row n 0 % u) o (eqb-false o (getD row n 0 % u) h)) ∙ e))
       where
         more : Either n o → Either (suc n) o
         more (inl p) = inl p
         more (inr q) = inr (q .0, (let l = q .1 in omega arith), q .2)
 
-    pub bit-row-only : (n o : ℕ) → bit (withRow ws base row u n) o ≡ 1 → (bit ws o ≡ 1) ⊎ ((i : ℕ) × (i < n) × (base + getD row i 0 % u ≡ o))
+    pub bit-row-only : (n o : ℕ) → bit (withRow ws row u n) o ≡ 1 → (bit ws o ≡ 1) ⊎ ((i : ℕ) × (i < n) × (getD row i 0 % u ≡ o))
     unfolding withRow
     bit-row-only zero o e = inl e
-    bit-row-only (suc n) o e = only n o (eqb o (base + getD row n 0 % u)) refl e (bit-row-only n o)
+    bit-row-only (suc n) o e = only n o (eqb o (getD row n 0 % u)) refl e (bit-row-only n o)
 
-    back : (n o : ℕ) → Either n o → bit (withRow ws base row u n) o ≡ 1
+    back : (n o : ℕ) → Either n o → bit (withRow ws row u n) o ≡ 1
     back n o (inl p) = bit-row-kept n o p
-    back n o (inr q) = ap (bit (withRow ws base row u n)) (sym (q .2)) ∙ bit-row-new n (q .0) (q .1)
+    back n o (inr q) = ap (bit (withRow ws row u n)) (sym (q .2)) ∙ bit-row-new n (q .0) (q .1)
 
     -- set after exactly if it was set, or is one of the offsets
-    pub row-decides : (n o : ℕ) → Decides (isSet (withRow ws base row u n) o) ((bit ws o ≡ 1) ⊎ ((i : ℕ) × (i < n) × (base + getD row i 0 % u ≡ o)))
+    pub row-decides : (n o : ℕ) → Decides (isSet (withRow ws row u n) o) ((bit ws o ≡ 1) ⊎ ((i : ℕ) × (i < n) × (getD row i 0 % u ≡ o)))
     row-decides n o = record {
-      sound = λ h. bit-row-only n o (isSet-one (withRow ws base row u n) o h);
-      whole = λ e. one-isSet (withRow ws base row u n) o (back n o e);
+      sound = λ h. bit-row-only n o (isSet-one (withRow ws row u n) o h);
+      whole = λ e. one-isSet (withRow ws row u n) o (back n o e);
     }

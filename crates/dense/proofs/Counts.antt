@@ -177,15 +177,15 @@ module _ (ws : List ℕ) (o : ℕ) where
       go false g = omega (arith, bits-with-below n (ltb-false o n g))
 
 -- a row of different offsets, none set before: below x there is one more for each of them that is below x
-module _ (ws : List ℕ) (base : ℕ) (row : List ℕ) (u : ℕ) (fits : base + u ≤ 64 * length ws) (some : 0 < u) where
-  row-step : (n x : ℕ) → bitsTo (withRow ws base row u n) x ≡ bitsTo ws x + sumTo (λ (i : ℕ). boolByte (ltb (base + getD row i 0 % u) x)) n → bit (withRow ws base row u n) (base + getD row n 0 % u) ≡ 0 → bitsTo (withBit (withRow ws base row u n) (base + getD row n 0 % u)) x ≡ bitsTo ws x + sumTo (λ (i : ℕ). boolByte (ltb (base + getD row i 0 % u) x)) (suc n)
+module _ (ws row : List ℕ) (u : ℕ) (fits : u ≤ 64 * length ws) (some : 0 < u) where
+  row-step : (n x : ℕ) → bitsTo (withRow ws row u n) x ≡ bitsTo ws x + sumTo (λ (i : ℕ). boolByte (ltb (getD row i 0 % u) x)) n → bit (withRow ws row u n) (getD row n 0 % u) ≡ 0 → bitsTo (withBit (withRow ws row u n) (getD row n 0 % u)) x ≡ bitsTo ws x + sumTo (λ (i : ℕ). boolByte (ltb (getD row i 0 % u) x)) (suc n)
   row-step n x ih z =
       let l = mod-lt (getD row n 0) some in
-      omega (arith, bits-with-new (withRow ws base row u n) (base + getD row n 0 % u) x (omega (arith, length-row ws base row u n)) z, sum-suc (λ (i : ℕ). boolByte (ltb (base + getD row i 0 % u) x)) n)
+      omega (arith, bits-with-new (withRow ws row u n) (getD row n 0 % u) x (omega (arith, length-row ws row u n)) z, sum-suc (λ (i : ℕ). boolByte (ltb (getD row i 0 % u) x)) n)
 
-  pub bits-row : (n x : ℕ) → ((i : ℕ) → i < n → bit ws (base + getD row i 0 % u) ≡ 0) → ((i j : ℕ) → i < j → j < n → base + getD row j 0 % u ≢ base + getD row i 0 % u) → bitsTo (withRow ws base row u n) x ≡ bitsTo ws x + sumTo (λ (i : ℕ). boolByte (ltb (base + getD row i 0 % u) x)) n
+  pub bits-row : (n x : ℕ) → ((i : ℕ) → i < n → bit ws (getD row i 0 % u) ≡ 0) → ((i j : ℕ) → i < j → j < n → getD row j 0 % u ≢ getD row i 0 % u) → bitsTo (withRow ws row u n) x ≡ bitsTo ws x + sumTo (λ (i : ℕ). boolByte (ltb (getD row i 0 % u) x)) n
   unfolding withRow
-  bits-row zero x h d = omega (arith, sum-zero (λ (i : ℕ). boolByte (ltb (base + getD row i 0 % u) x)))
+  bits-row zero x h d = omega (arith, sum-zero (λ (i : ℕ). boolByte (ltb (getD row i 0 % u) x)))
   bits-row (suc n) x h d =
       row-step n x (bits-row n x (λ i l. h i (omega arith)) (λ i j l g. d i j l (omega arith)))
-      (bit-row-other ws base row u n (base + getD row n 0 % u) (λ i l. d i n l (omega arith)) ∙ h n (omega arith))
+      (bit-row-other ws row u n (getD row n 0 % u) (λ i l. d i n l (omega arith)) ∙ h n (omega arith))

@@ -6,7 +6,7 @@ use native.Mathlib.Nat.{zero-add, mod-lt}
 use native.Mathlib.Numerals.{add-one}
 use native.Mathlib.Omega.{arith}
 use lib.Bits.{bitOr}
-use lib.ListN.{length, getD, set, take, drop, replicate, drop-of-length-le}
+use lib.ListN.{length, getD, set, take, drop, drop-of-length-le}
 use lib.Pow.{pow-pos}
 use lib.Seq.{paste, paste-suc}
 use Rattle.dense.specs.Bits.{orWords, withBit, withRow}
@@ -49,13 +49,6 @@ copy-more d s w i l h e =
 pub copy-all : (d s : List ℕ) (i : ℕ) → length d ≤ i → paste d 0 s i ≡ take i s
 copy-all d s i l = ap (λ (r : List ℕ). take i s ++ r) (drop-of-length-le d {i = 0 + i} (omega arith)) ∙ append-nil (take i s)
 
--- ---- clearing
-
-pub cleared : (d e : List ℕ) (i : ℕ) → length d ≤ i → i ≤ length d → e ≡ replicate i 0 ++ drop i d → e ≡ replicate (length d) 0
-cleared d e i h g p =
-    let s : i ≡ length d = omega arith in
-    p ∙ (ap (λ (k : ℕ). replicate k 0 ++ drop k d) s ∙ rw (drop-of-length-le d {i = length d} (omega arith)) (append-nil _))
-
 -- ---- a row
 
 pub shl-some : (s : ℕ) → s < 64 → 0 < 1 * 2 ^ s % 2 ^ 64
@@ -70,11 +63,11 @@ pub with-is : (ws : List ℕ) (o : ℕ) → set ws (o / 64) (bitOr (getD ws (o /
 unfolding withBit
 with-is ws o = ap (λ (x : ℕ). set ws (o / 64) (bitOr (getD ws (o / 64) 0) x)) (one-shl (o % 64) (omega arith))
 
-row-suc : (d row : List ℕ) (u i : ℕ) → withBit (withRow d 0 row u i) (getD row i 0 % u) ≡ withRow d 0 row u (i + 1)
+row-suc : (d row : List ℕ) (u i : ℕ) → withBit (withRow d row u i) (getD row i 0 % u) ≡ withRow d row u (i + 1)
 unfolding withRow
-row-suc d row u i = ap (withBit (withRow d 0 row u i)) (sym (zero-add (getD row i 0 % u))) ∙ ap (withRow d 0 row u) (sym (add-one i))
+row-suc d row u i = ap (withRow d row u) (sym (add-one i))
 
-pub row-more : (d row w : List ℕ) (s i o : ℕ) → s < 64 → o ≡ getD row i 0 % (1 * 2 ^ s % 2 ^ 64) → w ≡ withRow d 0 row (2 ^ s) i → set w (o / 64) (bitOr (getD w (o / 64) 0) (1 * 2 ^ (o % 64) % 2 ^ 64)) ≡ withRow d 0 row (2 ^ s) (i + 1)
+pub row-more : (d row w : List ℕ) (s i o : ℕ) → s < 64 → o ≡ getD row i 0 % (1 * 2 ^ s % 2 ^ 64) → w ≡ withRow d row (2 ^ s) i → set w (o / 64) (bitOr (getD w (o / 64) 0) (1 * 2 ^ (o % 64) % 2 ^ 64)) ≡ withRow d row (2 ^ s) (i + 1)
 row-more d row w s i o l e p =
     with-is w o
     ∙ (ap₂ withBit p (e ∙ ap (λ (m : ℕ). getD row i 0 % m) (one-shl s l)) ∙ row-suc d row (2 ^ s) i)

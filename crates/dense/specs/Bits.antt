@@ -47,7 +47,7 @@ orWords [] ys = []
 orWords (x ∷ xs) [] = x ∷ xs
 orWords (x ∷ xs) (y ∷ ys) = bitOr x y ∷ orWords xs ys
 
--- the words with a row's first n offsets set, each taken mod the size u and counted from base on
-unfoldable pub withRow : List ℕ → ℕ → List ℕ → ℕ → ℕ → List ℕ
-withRow ws base row u zero = ws
-withRow ws base row u (suc n) = withBit (withRow ws base row u n) (base + getD row n 0 % u)
+-- the words with a row's first n offsets set, each taken mod the size u
+unfoldable pub withRow : List ℕ → List ℕ → ℕ → ℕ → List ℕ
+withRow ws row u zero = ws
+withRow ws row u (suc n) = withBit (withRow ws row u n) (getD row n 0 % u)

@@ -1,6 +1,5 @@
 // Dense chunks: bit maps in lent words of 64 bits, one bit for each offset.
 pub mod block;
-pub mod part;
 pub mod words;
 
 ghost use mathlib.Core.Path.{_≡_};
@@ -39,7 +38,7 @@ pub fn insert(words: &mut [u64], off: u64) -> bool
 // Sets the bits of a row's first `len` offsets. Each is taken mod 2^s, the chunk's size, so that no row leads outside the words.
 pub fn write_row(words: &mut [u64], row: &[u32], len: usize, s: u64)
     requires { ⌜ (len ≤ length (now row)) × (s < 64) × (2 ^ s ≤ 64 * length (now words)) ⌝ }
-    ensures { λ _. ⌜ now (words .exit) ≡ withRow (now (words .entry)) 0 (now (row .entry)) (2 ^ s) len ⌝ }
+    ensures { λ _. ⌜ now (words .exit) ≡ withRow (now (words .entry)) (now (row .entry)) (2 ^ s) len ⌝ }
 {
     let mut i: usize = 0;
     while i < len {

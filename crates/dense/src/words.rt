@@ -1,7 +1,7 @@
-// Whole words: counting, union, copying, clearing.
+// Whole words: counting, union, copying.
 ghost use mathlib.Core.Path.{_≡_};
 ghost use Prim.Native.Nat.{_*_, _^_, _≤_, _<_};
-ghost use lib.ListN.{length, replicate};
+ghost use lib.ListN.{length};
 ghost use Rattle.dense.specs.Bits.{bitsTo, orWords};
 
 // How many members there are.
@@ -38,17 +38,6 @@ pub fn copy(dst: &mut [u64], src: &[u64])
     let mut i: usize = 0;
     while i < dst.len() {
         dst[i] = src[i];
-        i += 1;
-    }
-}
-
-// No member is left.
-pub fn clear(words: &mut [u64])
-    ensures { λ _. ⌜ now (words .exit) ≡ replicate (length (now (words .entry))) 0 ⌝ }
-{
-    let mut i: usize = 0;
-    while i < words.len() {
-        words[i] = 0;
         i += 1;
     }
 }

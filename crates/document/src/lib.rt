@@ -1,4 +1,5 @@
-// What document 01 speaks of: sizes, answers, plans. Types alone; specs/ says what they mean.
+// What document 01 speaks of: sizes, answers, refusals, plans. Types and numbers alone; specs/ says what they mean.
 pub mod answer;
 pub mod plan;
+pub mod refusal;
 pub mod sizes;

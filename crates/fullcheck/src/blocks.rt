@@ -11,8 +11,8 @@ ghost use Rattle.fullcheck.specs.Check.{keptIf, blockIs, pageBlocks};
 use dense::block;
 use document::sizes::Sizes;
 use layout::head;
+use numbers::element;
 use numbers::order;
-use numbers::place;
 use numbers::power;
 
 // What block b of a page adds to the running count.
@@ -36,7 +36,7 @@ pub fn page_blocks(page: &[u64], blocks: &[u32], ranked: bool, a: u64, n: u64) -
     let mut sum: u64 = 0;
     let mut b: u64 = 0;
     while b < n {
-        ok = ok & (order::wide(place::at32(blocks, a + b)) == sum);
+        ok = ok & (order::wide(element::at32(blocks, a + b)) == sum);
         sum += block_if(page, ranked, b);
         b += 1;
     }
@@ -65,7 +65,7 @@ pub fn blocks_are(pages: &[u64], blocks: &[u32], table: &[u64], h: Sizes) -> boo
     requires { ⌜ InRange h × (h .p * wide h ≤ length (now pages)) × (h .p * blocksOf h ≤ length (now blocks)) ⌝ }
     ensures { λ b. ⌜ b ≡ allTo (pageBlocks h (now (pages .entry)) (now (blocks .entry)) (rankedAt (now (table .entry)))) (h .p) ⌝ }
 {
-    let ranked = place::at(table, 6) == 1;
+    let ranked = element::at(table, 6) == 1;
     let n = h.p;
     let mut ok = true;
     let mut p: u64 = 0;

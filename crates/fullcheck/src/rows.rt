@@ -12,8 +12,8 @@ use layout::entry;
 use layout::head;
 use layout::place::Place;
 use layout::zeros;
+use numbers::element;
 use numbers::order;
-use numbers::place;
 use numbers::power;
 
 // The i-th of a row's l offsets: below u, and below the next.
@@ -21,8 +21,8 @@ pub fn offset_is(row: &[u32], u: u64, l: u64, i: u64) -> bool
     requires { ⌜ i < l ⌝ }
     ensures { λ b. ⌜ b ≡ offsetIs (now (row .entry)) u l i ⌝ }
 {
-    let x = place::at32(row, i);
-    (order::wide(x) < u) & ((l <= i + 1) | (x < place::at32(row, i + 1)))
+    let x = element::at32(row, i);
+    (order::wide(x) < u) & ((l <= i + 1) | (x < element::at32(row, i + 1)))
 }
 
 // All l of them.
@@ -85,7 +85,7 @@ pub fn lists_are(rows: &[u32], table: &[u64], h: Sizes) -> bool
     requires { ⌜ WalkShown h (now table) × (h .r * h .m ≤ length (now rows)) ⌝ }
     ensures { λ b. ⌜ b ≡ allTo (rowIs h (now (rows .entry)) (now (table .entry))) (entries h (now (table .entry))) ⌝ }
 {
-    let n = h.d + place::at(table, 7);
+    let n = h.d + element::at(table, 7);
     let mut ok = true;
     let mut e: u64 = 0;
     while e < n {

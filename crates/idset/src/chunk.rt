@@ -9,7 +9,7 @@ use document::answer::Truth;
 use layout::find;
 use layout::find::Spot;
 use layout::find::Word;
-use numbers::place as element;
+use numbers::element;
 use sparse::Place;
 
 // Chunk c's word: a direct entry's without a call.

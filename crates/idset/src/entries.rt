@@ -12,7 +12,7 @@ use dense::words;
 use layout::entry;
 use layout::find;
 use layout::find::Spot;
-use numbers::place as element;
+use numbers::element;
 
 // Whether an entry's part is inside its pool, and its members.
 pub struct Part {

@@ -7,8 +7,8 @@ use document::answer::Perhaps;
 use document::answer::Truth;
 use numbers::Natural;
 use numbers::Split;
+use numbers::element;
 use numbers::id as ids;
-use numbers::place as element;
 
 // Whether an id is a member. A negative one never is.
 pub fn get(pages: &[u64], rows: &[u32], blocks: &[u32], table: &[u64], id: i64) -> Truth

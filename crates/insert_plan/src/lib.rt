@@ -11,7 +11,7 @@ use calls::plan::Plan;
 use layout::head;
 use layout::owners;
 use layout::walk;
-use numbers::place as element;
+use numbers::element;
 use numbers::power;
 use sparse::Place;
 

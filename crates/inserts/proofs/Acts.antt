@@ -22,11 +22,11 @@ use Rattle.calls.specs.declared.plan.Plan.the-variants.{Mark, Enter, Begin, Tur
 
 -- page p filled from row r
 pub turn-put : (pages rows : List ℕ) (h : Sizes) (r p l o i j k : ℕ) → i ≡ r * h .m → j ≡ p * wide h → k ≡ wide h → (ys : List ℕ)
-    → ys ≡ withBit (withRow (take (j + k - j) (drop j pages)) 0 (take (i + h .m - i) (drop i rows)) (top h) l) o
-    → take j pages ++ (ys ++ drop (j + k - j) (drop j pages)) ≡ putPage h pages p (withBit (withRow (pagePart h pages p) 0 (rowPart h rows r) (top h) l) o)
+    → ys ≡ withBit (withRow (take (j + k - j) (drop j pages)) (take (i + h .m - i) (drop i rows)) (top h) l) o
+    → take j pages ++ (ys ++ drop (j + k - j) (drop j pages)) ≡ putPage h pages p (withBit (withRow (pagePart h pages p) (rowPart h rows r) (top h) l) o)
 turn-put pages rows h r p l o i j k ei ej ek ys f =
-    put-lent pages j k (p * wide h) (wide h) ej ek (λ (w : List ℕ). withBit (withRow w 0 (take (i + h .m - i) (drop i rows)) (top h) l) o) ys f
-    ∙ ap (λ (row : List ℕ). putPage h pages p (withBit (withRow (pagePart h pages p) 0 row (top h) l) o))
+    put-lent pages j k (p * wide h) (wide h) ej ek (λ (w : List ℕ). withBit (withRow w (take (i + h .m - i) (drop i rows)) (top h) l) o) ys f
+    ∙ ap (λ (row : List ℕ). putPage h pages p (withBit (withRow (pagePart h pages p) row (top h) l) o))
     (ap (λ (n : ℕ). take n (drop i rows)) (span i (h .m)) ∙ ap (λ (n : ℕ). take (h .m) (drop n rows)) ei)
 
 -- offset o at place k of row r, whose start i and width n were read
@@ -66,7 +66,7 @@ module _ (pages rows b t : List ℕ) (c o : ℕ) (q : Plan) where
         ∙ (ap (λ (k : Sizes). begun k r) eh ∙ act-way (mem pages rows b t) c o q (Begin r) e)
 
     abbrev page : Sizes → ℕ → ℕ → ℕ → List ℕ
-    page h r l p = putPage h pages p (withBit (withRow (pagePart h pages p) 0 (rowPart h rows r) (top h) l) o)
+    page h r l p = putPage h pages p (withBit (withRow (pagePart h pages p) (rowPart h rows r) (top h) l) o)
 
     turned : Sizes → ℕ → ℕ → ℕ → Told
     turned h r l p =

@@ -10,8 +10,8 @@ use layout::find;
 use layout::find::Spot;
 use layout::find::Word;
 use numbers::Split;
+use numbers::element;
 use numbers::id as ids;
-use numbers::place as element;
 
 // The call is done, and this is its answer; or nothing is.
 pub enum Direct {

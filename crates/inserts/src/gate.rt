@@ -1,7 +1,7 @@
 // Whether a set takes inserts.
 ghost use mathlib.Core.Path.{_≡_};
 ghost use Rattle.inserts.specs.Gate.{refusalOf};
-use numbers::place as element;
+use numbers::element;
 
 // 3 for a size or a mode that is not allowed, 4 for a ranked set, 0 for an open one.
 pub fn refusal(table: &[u64]) -> u64

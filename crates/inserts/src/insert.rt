@@ -12,8 +12,8 @@ use crate::gate;
 use document::answer::Outcome;
 use document::answer::Truth;
 use numbers::Split;
+use numbers::element;
 use numbers::id as ids;
-use numbers::place as element;
 
 // The whole way: `set_if_new` into any chunk.
 fn anywhere(

@@ -20,7 +20,7 @@ use document::sizes::Sizes;
 use layout::head;
 use layout::place;
 use layout::write;
-use numbers::place as element;
+use numbers::element;
 use numbers::power;
 use steps::turn;
 
@@ -81,7 +81,7 @@ pub fn begin_entry(table: &mut [u64], h: Sizes, c: u64, r: u64)
 // Words with the bits of a row's first l offsets and of offset o.
 pub fn fill(words: &mut [u64], row: &[u32], l: usize, s: u64, o: u64)
     requires { ⌜ (l ≤ length (now row)) × (s < 64) × (2 ^ s ≤ 64 * length (now words)) × (o < 64 * length (now words)) ⌝ }
-    ensures { λ _. ⌜ now (words .exit) ≡ withBit (withRow (now (words .entry)) 0 (now (row .entry)) (2 ^ s) l) o ⌝ }
+    ensures { λ _. ⌜ now (words .exit) ≡ withBit (withRow (now (words .entry)) (now (row .entry)) (2 ^ s) l) o ⌝ }
 {
     dense::write_row(words, row, l, s);
     dense::insert(words, o);
@@ -92,7 +92,7 @@ pub fn turn_page(pages: &mut [u64], rows: &[u32], h: Sizes, r: u64, l: usize, p:
     requires { ⌜ InRange h × (r < h .r) × (p < h .p) × (h .r * h .m ≤ length (now rows)) × (h .p * wide h ≤ length (now pages))
         × (l ≤ h .m) × (o < top h) ⌝ }
     ensures { λ _. ⌜ now (pages .exit) ≡ putPage h (now (pages .entry)) p
-        (withBit (withRow (pagePart h (now (pages .entry)) p) 0 (rowPart h (now (rows .entry)) r) (top h) l) o) ⌝ }
+        (withBit (withRow (pagePart h (now (pages .entry)) p) (rowPart h (now (rows .entry)) r) (top h) l) o) ⌝ }
 {
     let s = h.s;
     let a = head::row_at(h, r) as usize;

@@ -4,7 +4,7 @@ use mathlib.Core.List.{List}
 use mathlib.Core.Bool.{Bool, cond}
 use lib.ListN.{length, getD}
 use lib.Dec.{ltb, eqb}
-use Rattle.layout.specs.Sizes.{directAt, overCount, totalAt}
+use Rattle.layout.specs.Sizes.{directAt, overStart, headerAt, overCount, totalAt}
 use Rattle.layout.specs.Short.{keyAt, overPlace, entriesIn}
 use Rattle.layout.specs.declared.seat.Seat.{Seat}
 use Rattle.layout.specs.declared.seat.Seat.the-variants.{At, Bad}
@@ -21,7 +21,7 @@ overSeat t a n c k =
     (At 0 (totalAt t))
 
 abbrev pub overflowSeat : List ℕ → ℕ → ℕ → Seat
-overflowSeat t d c = cond (entriesIn t d) (overSeat t (16 + 2 * d) (overCount t) c (overPlace t (16 + 2 * d) (overCount t) c)) Bad
+overflowSeat t d c = cond (entriesIn t d) (overSeat t (overStart d) (overCount t) c (overPlace t (overStart d) (overCount t) c)) Bad
 
 unfoldable pub seatIn : List ℕ → ℕ → Seat
-seatIn t c = cond (ltb c (getD t 2 0)) (directSeat t c) (overflowSeat t (getD t 2 0) c)
+seatIn t c = cond (ltb c (headerAt t .d)) (directSeat t c) (overflowSeat t (headerAt t .d) c)

@@ -5,7 +5,7 @@ use mathlib.Core.Bool.{Bool, true, cond, _&&_}
 use lib.ListN.{length, getD}
 use lib.Dec.{leb, ltb, eqb}
 use Rattle.document.specs.declared.sizes.Sizes.{Sizes}
-use Rattle.layout.specs.Sizes.{wide, directAt, overCount}
+use Rattle.layout.specs.Sizes.{wide, directAt, overStart, headerAt, overCount}
 use Rattle.layout.specs.Places.{decoded}
 use Rattle.layout.specs.declared.find.Word.{Word}
 use Rattle.layout.specs.declared.find.Word.the-variants as word
@@ -38,13 +38,13 @@ directWord t c = cond (ltb (directAt c) (length t)) (word.Is (getD t (directAt c
 
 -- the entries in use are at most the sizes' and lie inside it
 abbrev pub entriesIn : List ℕ → ℕ → Bool
-entriesIn t d = leb d 262144 && leb (overCount t) 65536 && leb (16 + 2 * d + 3 * overCount t) (length t) && leb (overCount t) (getD t 3 0)
+entriesIn t d = leb d 262144 && leb (overCount t) 65536 && leb (overStart d + 3 * overCount t) (length t) && leb (overCount t) (headerAt t .v)
 
 abbrev pub overflowWord : List ℕ → ℕ → ℕ → Word
-overflowWord t d c = cond (entriesIn t d) (word.Is (overWord t (16 + 2 * d) (overCount t) c (overPlace t (16 + 2 * d) (overCount t) c))) word.Bad
+overflowWord t d c = cond (entriesIn t d) (word.Is (overWord t (overStart d) (overCount t) c (overPlace t (overStart d) (overCount t) c))) word.Bad
 
 unfoldable pub wordIn : List ℕ → ℕ → Word
-wordIn t c = cond (ltb c (getD t 2 0)) (directWord t c) (overflowWord t (getD t 2 0) c)
+wordIn t c = cond (ltb c (headerAt t .d)) (directWord t c) (overflowWord t (headerAt t .d) c)
 
 -- a place's part of its pool
 abbrev pub spotOn : Sizes → Place → Spot

@@ -16,17 +16,21 @@ blocksOf h = 2 ^ (h .s - 9)
 abbrev pub directAt : ℕ → ℕ
 directAt c = 16 + 2 * c
 
+-- behind d direct entries
+abbrev pub overStart : ℕ → ℕ
+overStart d = directAt d
+
 abbrev pub overAt : Sizes → ℕ → ℕ
-overAt h j = 16 + 2 * h .d + 3 * j
+overAt h j = overStart (h .d) + 3 * j
 
 abbrev pub rowOwnersAt : Sizes → ℕ
-rowOwnersAt h = 16 + 2 * h .d + 3 * h .v
+rowOwnersAt h = overAt h (h .v)
 
 abbrev pub pageOwnersAt : Sizes → ℕ
-pageOwnersAt h = 16 + 2 * h .d + 3 * h .v + h .r
+pageOwnersAt h = rowOwnersAt h + h .r
 
 abbrev pub tableSize : Sizes → ℕ
-tableSize h = 16 + 2 * h .d + 3 * h .v + h .r + h .p
+tableSize h = pageOwnersAt h + h .p
 
 pub record Roomy (h : Sizes) (pages rows blocks table : ℕ) : Type 0 where
   pub in-pages : h .p * wide h ≤ pages

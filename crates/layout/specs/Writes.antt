@@ -4,7 +4,7 @@ use mathlib.Core.List.{List, [], _∷_, _++_}
 use mathlib.Core.Bool.{cond, _&&_}
 use lib.ListN.{length, getD, set, take, drop}
 use lib.Dec.{leb, ltb, eqb}
-use Rattle.layout.specs.Sizes.{wide, directAt, overAt, rowOwnersAt, pageOwnersAt, overCount}
+use Rattle.layout.specs.Sizes.{wide, directAt, overStart, overAt, rowOwnersAt, pageOwnersAt, overCount}
 use Rattle.layout.specs.Entries.{prefixPlace}
 use Rattle.layout.specs.Short.{overPlace}
 use Rattle.document.specs.declared.sizes.Sizes.{Sizes}
@@ -29,7 +29,7 @@ overPut h t c w k = cond (ltb k (overCount t) && eqb (getD t (overAt h k) 0) c) 
 
 -- the table with w as chunk c's word
 unfoldable pub putWord : Sizes → List ℕ → ℕ → ℕ → List ℕ
-putWord h t c w = cond (ltb c (h .d)) (set t (directAt c) w) (overPut h t c w (overPlace t (16 + 2 * h .d) (overCount t) c))
+putWord h t c w = cond (ltb c (h .d)) (set t (directAt c) w) (overPut h t c w (overPlace t (overStart (h .d)) (overCount t) c))
 
 -- v as the prefix of entry e
 abbrev pub putPrefix : Sizes → List ℕ → ℕ → ℕ → List ℕ

@@ -9,7 +9,7 @@ ghost use Rattle.layout.specs.Entries.{chunkAt, wordAt, prefixAt, placeA
 use crate::place;
 use crate::place::Place;
 use document::sizes::Sizes;
-use numbers::place as element;
+use numbers::element;
 
 // The chunk id of entry e: e itself for a direct one.
 pub fn chunk_at(table: &[u64], h: Sizes, e: u64) -> u64

@@ -8,7 +8,7 @@ ghost use Rattle.layout.specs.declared.place.Place.the-variants.{Sparse,
 use crate::place;
 use crate::place::Place;
 use document::sizes::Sizes;
-use numbers::place as element;
+use numbers::element;
 use numbers::power;
 
 // A chunk's word, 0 where it is absent, or a table that is too short to say.

@@ -5,7 +5,7 @@ ghost use Rattle.document.specs.Sizes.{InRange};
 ghost use Rattle.layout.specs.Sizes.{headerAt, wide, blocksOf, overAt, rowOwnersAt, pageOwnersAt};
 ghost use Rattle.layout.specs.Tests.{inRange, roomy};
 use document::sizes::Sizes;
-use numbers::place;
+use numbers::element;
 use numbers::power;
 
 // The sizes that a table's header says.
@@ -13,12 +13,12 @@ pub fn read(table: &[u64]) -> Sizes
     ensures { λ h. ⌜ h ≡ headerAt (now (table .entry)) ⌝ }
 {
     Sizes {
-        s: place::at(table, 0),
-        m: place::at(table, 1),
-        d: place::at(table, 2),
-        v: place::at(table, 3),
-        r: place::at(table, 4),
-        p: place::at(table, 5),
+        s: element::at(table, 0),
+        m: element::at(table, 1),
+        d: element::at(table, 2),
+        v: element::at(table, 3),
+        r: element::at(table, 4),
+        p: element::at(table, 5),
     }
 }
 

@@ -10,7 +10,7 @@ ghost use Rattle.layout.specs.Places.{rowOwner, pageOwner};
 ghost use Rattle.layout.specs.Free.{firstFree};
 use crate::head;
 use document::sizes::Sizes;
-use numbers::place as element;
+use numbers::element;
 
 // The first of places i to n - 1 whose owner is 0, else the one past them; the owners start at a.
 fn first_free(table: &[u64], a: u64, i: u64, n: u64) -> u64

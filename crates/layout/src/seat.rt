@@ -4,7 +4,7 @@ ghost use Prim.Native.Nat.{_+_, _*_, _^_, _≤_, _<_};
 ghost use lib.ListN.{length};
 ghost use Rattle.layout.specs.Seat.{overSeat, overflowSeat, seatIn};
 use crate::find;
-use numbers::place as element;
+use numbers::element;
 
 // A chunk's word and the members of the chunks before it, or a table that is too short to say.
 pub enum Seat {

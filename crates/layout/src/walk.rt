@@ -15,8 +15,8 @@ use crate::place;
 use crate::place::Place;
 use crate::zeros;
 use document::sizes::Sizes;
+use numbers::element;
 use numbers::order;
-use numbers::place as element;
 use numbers::power;
 
 // An owner names chunk c when it is c + 1; a chunk id of 2^64 - 1 has no owner.

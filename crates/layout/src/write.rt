@@ -8,7 +8,7 @@ ghost use Rattle.layout.specs.Writes.{added, overPut, putWord, putPrefix
 use crate::find;
 use crate::head;
 use document::sizes::Sizes;
-use numbers::place as element;
+use numbers::element;
 
 // A new overflow entry at its place: those from k on move up by one entry, from the top.
 pub fn add_entry(table: &mut [u64], h: Sizes, c: u64, w: u64, k: u64)

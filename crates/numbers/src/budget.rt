@@ -14,9 +14,6 @@ const MOST_BYTES: u64 = 2305843009213693951;
 // 2 ^ 64 - 1
 const MOST_BITS: u64 = 18446744073709551615;
 
-// 2 ^ 63 - 1: the largest id.
-const MOST_ID: u64 = 9223372036854775807;
-
 // The bits in b bytes, held to 64 bits.
 pub fn bits_of(b: u64) -> u64
     ensures { λ r. ⌜ r ≡ bitsOf b ⌝ }
@@ -38,10 +35,10 @@ pub fn by_size(len: u64, per: u64) -> u64
     if per == 0 {
         return 0;
     }
-    if len <= MOST_ID / per {
+    if len <= id::LARGEST / per {
         return len * per;
     }
-    MOST_ID
+    id::LARGEST
 }
 
 // What `pre_allocate` may be asked for where a file claims a highest id. A negative claim stays.

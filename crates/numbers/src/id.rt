@@ -5,7 +5,16 @@ use crate::power;
 ghost use mathlib.Core.Path.{_≡_};
 ghost use Prim.Native.Nat.{_^_, _<_};
 ghost use lib.IntN.{pos};
-ghost use Rattle.numbers.specs.Ids.{naturalOf, splitOf, chunkOf, idOf};
+ghost use Rattle.numbers.specs.Ids.{naturalOf, splitOf, chunkOf};
+
+// 2 ^ 63: every id is below it.
+pub const LIMIT: u64 = 9223372036854775808;
+
+// 2 ^ 63 - 1: the largest id.
+pub const LARGEST: u64 = LIMIT - 1;
+
+// The smallest i64.
+pub const SMALLEST: i64 = -9223372036854775808;
 
 // The one place where an id's sign is looked at.
 pub fn natural(id: i64) -> Natural
@@ -45,12 +54,4 @@ pub fn chunk_of(id: i64, s: u64) -> Natural
         Natural::Negative => Natural::Negative,
         Natural::At(n) => Natural::At(power::high(n, s)),
     }
-}
-
-// The id at an offset of a chunk: what `split` takes apart.
-pub fn joined(c: u64, off: u64, s: u64) -> u64
-    requires { ⌜ (s < 64) × (idOf s c off < 2 ^ 64) ⌝ }
-    ensures { λ r. ⌜ r ≡ idOf s c off ⌝ }
-{
-    power::shifted(c, s) + off
 }

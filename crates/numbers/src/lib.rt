@@ -1,8 +1,8 @@
 // Pure numbers: ids and their chunks, budgets, powers of two, elements of slices.
 pub mod budget;
+pub mod element;
 pub mod id;
 pub mod order;
-pub mod place;
 pub mod power;
 
 // An id of 0 or more, or none.

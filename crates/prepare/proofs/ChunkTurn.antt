@@ -30,13 +30,13 @@ module _ (h : Sizes) (c p : ℕ) (ps rs bs t : List ℕ) where
   unfolding paged
   absent-page t′ e = ap₂ (λ (u v : List ℕ). mem u rs bs v) (sym (put-back ps (p * wide h) (wide h))) e
 
-  pub sparse-page : (r l : ℕ) (ps′ rs′ t′ : List ℕ) → ps′ ≡ putPart ps (p * wide h) (wide h) (withRow (pagePart h ps p) 0 (rowPart h rs r) (top h) l)
+  pub sparse-page : (r l : ℕ) (ps′ rs′ t′ : List ℕ) → ps′ ≡ putPart ps (p * wide h) (wide h) (withRow (pagePart h ps p) (rowPart h rs r) (top h) l)
       → rs′ ≡ putRow h rs r (replicate (h .m) 0) → t′ ≡ putPageOwner h (putRowOwner h (putWord h t c (encoded (Dense p))) r 0) p (c + 1)
       → mem ps′ rs′ bs t′ ≡ intoPage h (mem ps rs bs t) c p (Sparse r l)
   unfolding paged
   sparse-page r l ps′ rs′ t′ e f g =
       ap (λ (u : List ℕ). mem u rs′ bs t′) e
-      ∙ ap₂ (λ (u v : List ℕ). mem (putPart ps (p * wide h) (wide h) (withRow (pagePart h ps p) 0 (rowPart h rs r) (top h) l)) u bs v) f g
+      ∙ ap₂ (λ (u v : List ℕ). mem (putPart ps (p * wide h) (wide h) (withRow (pagePart h ps p) (rowPart h rs r) (top h) l)) u bs v) f g
 
 -- ---- the word that is found
 

@@ -14,12 +14,12 @@ use Rattle.steps.proofs.Lent.{span, put-lent}
 
 -- page p with the members of row r
 pub fill-put : (pages rows : List ℕ) (h : Sizes) (r p l i j k : ℕ) → i ≡ r * h .m → j ≡ p * wide h → k ≡ wide h → (ys : List ℕ)
-    → ys ≡ withRow (take (j + k - j) (drop j pages)) 0 (take (i + h .m - i) (drop i rows)) (top h) l
+    → ys ≡ withRow (take (j + k - j) (drop j pages)) (take (i + h .m - i) (drop i rows)) (top h) l
     → take j pages ++ (ys ++ drop (j + k - j) (drop j pages))
-    ≡ putPart pages (p * wide h) (wide h) (withRow (pagePart h pages p) 0 (rowPart h rows r) (top h) l)
+    ≡ putPart pages (p * wide h) (wide h) (withRow (pagePart h pages p) (rowPart h rows r) (top h) l)
 fill-put pages rows h r p l i j k ei ej ek ys f =
-    put-lent pages j k (p * wide h) (wide h) ej ek (λ (w : List ℕ). withRow w 0 (take (i + h .m - i) (drop i rows)) (top h) l) ys f
-    ∙ ap (λ (row : List ℕ). putPart pages (p * wide h) (wide h) (withRow (pagePart h pages p) 0 row (top h) l))
+    put-lent pages j k (p * wide h) (wide h) ej ek (λ (w : List ℕ). withRow w (take (i + h .m - i) (drop i rows)) (top h) l) ys f
+    ∙ ap (λ (row : List ℕ). putPart pages (p * wide h) (wide h) (withRow (pagePart h pages p) row (top h) l))
     (ap (λ (n : ℕ). take n (drop i rows)) (span i (h .m)) ∙ ap (λ (n : ℕ). take (h .m) (drop n rows)) ei)
 
 -- a part put back where it was

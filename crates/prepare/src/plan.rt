@@ -17,9 +17,9 @@ use layout::head;
 use layout::place;
 use layout::walk;
 use numbers::Natural;
+use numbers::element;
 use numbers::id as ids;
 use numbers::order;
-use numbers::place as element;
 
 // A refusal, nothing for a negative maximum, or chunks 0 to c to make dense.
 pub enum Preparation {

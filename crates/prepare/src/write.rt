@@ -28,7 +28,7 @@ use steps::turn;
 pub fn fill_page(pages: &mut [u64], rows: &[u32], h: Sizes, r: u64, l: usize, p: u64)
     requires { ⌜ Fillable h (length (now pages)) (length (now rows)) r l × (p < h .p) ⌝ }
     ensures { λ _. ⌜ now (pages .exit) ≡ putPart (now (pages .entry)) (p * wide h) (wide h)
-        (withRow (pagePart h (now (pages .entry)) p) 0 (rowPart h (now (rows .entry)) r) (top h) l) ⌝ }
+        (withRow (pagePart h (now (pages .entry)) p) (rowPart h (now (rows .entry)) r) (top h) l) ⌝ }
 {
     let s = h.s;
     let a = head::row_at(h, r) as usize;

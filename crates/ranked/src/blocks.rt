@@ -11,8 +11,8 @@ ghost use Rattle.ranked.specs.Counts.{counted, BlocksCounted};
 use dense::block;
 use document::sizes::Sizes;
 use layout::head;
+use numbers::element;
 use numbers::order;
-use numbers::place as element;
 use numbers::power;
 
 // The n counts of a page's words, from place k on. Each word is looked at once.

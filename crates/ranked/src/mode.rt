@@ -3,7 +3,7 @@ ghost use mathlib.Core.Path.{_≡_};
 ghost use Rattle.layout.specs.Mem.{memOf};
 ghost use Rattle.ranked.specs.Modes.{formIn, formOf};
 use layout::walk;
-use numbers::place as element;
+use numbers::element;
 
 pub enum Form {
     Open,

@@ -13,7 +13,7 @@ use document::sizes::Sizes;
 use layout::entry;
 use layout::place::Place;
 use layout::write;
-use numbers::place as element;
+use numbers::element;
 
 // How many entries there are.
 pub fn entry_count(table: &[u64], h: Sizes) -> u64

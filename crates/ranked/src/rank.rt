@@ -15,8 +15,8 @@ use document::answer::Perhaps;
 use layout::seat;
 use layout::seat::Seat;
 use numbers::Split;
+use numbers::element;
 use numbers::id as ids;
-use numbers::place as element;
 
 // Members below offset o of chunk c: one entry with its prefix, then the chunk itself.
 fn rank_at(

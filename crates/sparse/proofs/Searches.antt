@@ -1,5 +1,5 @@
 -- Laws of the search: each way through the code, what it says on any content, and what it says where offsets rise. Assumes nothing.
-use mathlib.Core.Path.{_≡_, refl, sym, ap, _∙_}
+use mathlib.Core.Path.{_≡_, refl, sym, ap, ap₂, _∙_}
 use mathlib.Core.Bool.{Bool, true, false, cond, _&&_, _||_}
 use mathlib.Core.List.{List}
 use Prim.Native.Nat.{ℕ, suc, _-_, _≤_, _<_}
@@ -12,38 +12,53 @@ use Rattle.sums.proofs.Rules.{and-of, ltb-of, eqb-of, both}
 use Rattle.sparse.specs.declared.Place.{Place}
 use Rattle.sparse.specs.declared.Place.the-variants.{Found, Free}
 use Rattle.sparse.specs.Row.{rowOf, member, belowOf, Rising}
-use Rattle.sparse.specs.Search.{lowerOf, placeIf, searchIn, spotIn, anyIn}
+use Rattle.sparse.specs.Search.{lowerOf, placeIf, foundIn, searchIn, spotIn, anyIn}
 use Rattle.sparse.proofs.Rows.{member-of, member-at, same-test, below-le, below-at, below-before, below-after, below-own, below-all}
 use Rattle.sparse.proofs.Halving.{lower-le, lower-parts}
 
 -- ---- each way through the code
 
+-- a test of the offset at the place i that the search ends at, if there is one
+module _ (row : List ℕ) (len x i : ℕ) (e : i ≡ lowerOf row len x) (test : ℕ → Bool) where
+  at-case : (a : Bool) → ltb i len ≡ a → (a && test (getD row i 0)) ≡ (ltb (lowerOf row len x) len && test (getD row (lowerOf row len x) 0))
+  at-case a p = ap (λ (c : Bool). c && test (getD row i 0)) (sym p) ∙ ap (λ (k : ℕ). ltb k len && test (getD row k 0)) e
+
+  at-past : len ≤ i → false ≡ (ltb (lowerOf row len x) len && test (getD row (lowerOf row len x) 0))
+  at-past l = at-case false (le-ltb i len l)
+
+  at-here : i < len → test (getD row i 0) ≡ (ltb (lowerOf row len x) len && test (getD row (lowerOf row len x) 0))
+  at-here l = at-case true (lt-ltb i len l)
+
 module _ (row : List ℕ) (len x i : ℕ) (e : i ≡ lowerOf row len x) where
-  search-case : (a b : Bool) → ltb i len ≡ a → eqb (getD row i 0) x ≡ b → placeIf (a && b) i ≡ searchIn row len x
+  pub found-past : len ≤ i → false ≡ foundIn row len x
+  unfolding foundIn
+  found-past = at-past row len x i e (λ (y : ℕ). eqb y x)
+
+  pub found-here : i < len → eqb (getD row i 0) x ≡ foundIn row len x
+  unfolding foundIn
+  found-here = at-here row len x i e (λ (y : ℕ). eqb y x)
+
+  place-is : (b : Bool) → b ≡ foundIn row len x → placeIf b i ≡ searchIn row len x
   unfolding searchIn
-  search-case a b p q =
-      ap (λ (c : Bool). placeIf (c && b) i) (sym p) ∙ ap (λ (c : Bool). placeIf (ltb i len && c) i) (sym q)
-      ∙ ap (λ (k : ℕ). placeIf (ltb k len && eqb (getD row k 0) x) k) e
+  place-is b f = ap (λ (c : Bool). placeIf c i) f ∙ ap (placeIf (foundIn row len x)) e
 
   pub search-past : len ≤ i → Free i ≡ searchIn row len x
-  search-past l = search-case false (eqb (getD row i 0) x) (le-ltb i len l) refl
+  search-past l = place-is false (found-past l)
 
   pub search-hit : i < len → getD row i 0 ≡ x → Found i ≡ searchIn row len x
-  search-hit l h = search-case true true (lt-ltb i len l) (eq-eqb (getD row i 0) x h)
+  search-hit l h = place-is true (sym (eq-eqb (getD row i 0) x h) ∙ found-here l)
 
   pub search-miss : i < len → (getD row i 0 ≡ x → ⊥) → Free i ≡ searchIn row len x
-  search-miss l h = search-case true false (lt-ltb i len l) (ne-eqb (getD row i 0) x h)
+  search-miss l h = place-is false (sym (ne-eqb (getD row i 0) x h) ∙ found-here l)
 
 module _ (row : List ℕ) (len lo hi i : ℕ) (e : i ≡ lowerOf row len lo) where
-  any-case : (a : Bool) → ltb i len ≡ a → (a && leb (getD row i 0) hi) ≡ anyIn row len lo hi
-  unfolding anyIn
-  any-case a p = ap (λ (c : Bool). c && leb (getD row i 0) hi) (sym p) ∙ ap (λ (k : ℕ). ltb k len && leb (getD row k 0) hi) e
-
   pub any-past : len ≤ i → false ≡ anyIn row len lo hi
-  any-past l = any-case false (le-ltb i len l)
+  unfolding anyIn
+  any-past = at-past row len lo i e (λ (y : ℕ). leb y hi)
 
   pub any-here : i < len → leb (getD row i 0) hi ≡ anyIn row len lo hi
-  any-here l = any-case true (lt-ltb i len l)
+  unfolding anyIn
+  any-here = at-here row len lo i e (λ (y : ℕ). leb y hi)
 
 module _ (row : List ℕ) (len x : ℕ) where
   spot-case : (a b : Bool) → eqb len 0 ≡ a → ltb (getD row (len - 1) 0) x ≡ b → cond (a || b) (Free len) (searchIn row len x) ≡ spotIn row len x
@@ -66,7 +81,7 @@ module _ (row : List ℕ) (len x : ℕ) where
 module _ (row : List ℕ) (len x : ℕ) where
   -- what is found is there
   pub search-found : (i : ℕ) → searchIn row len x ≡ Found i → (i < len) × (getD row i 0 ≡ x)
-  unfolding searchIn
+  unfolding searchIn foundIn
   search-found i e = go (ltb (lowerOf row len x) len && eqb (getD row (lowerOf row len x) 0) x) refl e
     where
       go : (b : Bool) → (ltb (lowerOf row len x) len && eqb (getD row (lowerOf row len x) 0) x) ≡ b → placeIf b (lowerOf row len x) ≡ Found i → (i < len) × (getD row i 0 ≡ x)
@@ -88,7 +103,7 @@ place-if false i = refl
 
 pub search-place : (row : List ℕ) (len x : ℕ) → placeOf (searchIn row len x) ≡ lowerOf row len x
 unfolding searchIn
-search-place row len x = place-if (ltb (lowerOf row len x) len && eqb (getD row (lowerOf row len x) 0) x) (lowerOf row len x)
+search-place row len x = place-if (foundIn row len x) (lowerOf row len x)
 
 pub search-le : (row : List ℕ) (len x : ℕ) → placeOf (searchIn row len x) ≤ len
 search-le row len x = omega (arith, search-place row len x, lower-le row len x)
@@ -116,18 +131,18 @@ module _ (row : List ℕ) (len : ℕ) (up : Rising (rowOf row) len) where
   lower-rising x = lower-parts row len x (belowOf (rowOf row) len x) (below-at (rowOf row) len up x) (below-le (rowOf row) len x)
 
   -- found exactly when a member
-  pub found-rising : (x : ℕ) → (ltb (belowOf (rowOf row) len x) len && eqb (getD row (belowOf (rowOf row) len x) 0) x) ≡ member (rowOf row) len x
+  pub found-rising : (x : ℕ) → foundIn row len x ≡ member (rowOf row) len x
+  unfolding foundIn
   found-rising x =
       let p = belowOf (rowOf row) len x in
-      same-test (ltb p len && eqb (getD row p 0) x) (member (rowOf row) len x) (and-of (ltb-of p len) (eqb-of (getD row p 0) x)) (member-of (rowOf row) len x)
+      ap (λ (i : ℕ). ltb i len && eqb (getD row i 0) x) (lower-rising x)
+      ∙ same-test (ltb p len && eqb (getD row p 0) x) (member (rowOf row) len x) (and-of (ltb-of p len) (eqb-of (getD row p 0) x)) (member-of (rowOf row) len x)
       (λ w. (p, w .0, w .1))
       (λ w. let e : p ≡ w .0 = ap (belowOf (rowOf row) len) (sym (w .2)) ∙ below-own (rowOf row) len up (w .0) (w .1) in (omega (arith, w .1), ap (λ (j : ℕ). getD row j 0) e ∙ w .2))
 
   pub search-rising : (x : ℕ) → searchIn row len x ≡ placeIf (member (rowOf row) len x) (belowOf (rowOf row) len x)
   unfolding searchIn
-  search-rising x =
-      ap (λ (i : ℕ). placeIf (ltb i len && eqb (getD row i 0) x) i) (lower-rising x)
-      ∙ ap (λ (b : Bool). placeIf b (belowOf (rowOf row) len x)) (found-rising x)
+  search-rising x = ap₂ placeIf (found-rising x) (lower-rising x)
 
   -- an offset above the last is free at the end
   pub spot-rising : (x : ℕ) → spotIn row len x ≡ searchIn row len x

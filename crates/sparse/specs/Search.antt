@@ -24,9 +24,13 @@ abbrev pub placeIf : Bool → ℕ → Place
 placeIf true i = Found i
 placeIf false i = Free i
 
+-- whether x stands at that place
+unfoldable pub foundIn : List ℕ → ℕ → ℕ → Bool
+foundIn row len x = ltb (lowerOf row len x) len && eqb (getD row (lowerOf row len x) 0) x
+
 -- `binary_search`
 unfoldable pub searchIn : List ℕ → ℕ → ℕ → Place
-searchIn row len x = placeIf (ltb (lowerOf row len x) len && eqb (getD row (lowerOf row len x) 0) x) (lowerOf row len x)
+searchIn row len x = placeIf (foundIn row len x) (lowerOf row len x)
 
 -- an offset above the last is appended, without a search
 unfoldable pub spotIn : List ℕ → ℕ → ℕ → Place

@@ -2,7 +2,7 @@
 ghost use mathlib.Core.Path.{_≡_};
 ghost use Prim.Native.Nat.{_+_, _≤_, _<_};
 ghost use lib.ListN.{length};
-ghost use Rattle.sparse.specs.Search.{lowerOf, searchIn, spotIn, anyIn};
+ghost use Rattle.sparse.specs.Search.{lowerOf, foundIn, searchIn, spotIn, anyIn};
 ghost use Rattle.sparse.specs.Edit.{insertedAt, cleared, copied};
 ghost use Rattle.sparse.specs.Union.{merged, union, onFront};
 
@@ -34,7 +34,19 @@ pub fn below(row: &[u32], len: usize, off: u32) -> usize
     lo + (row[lo] < off) as usize
 }
 
-// Whether an offset is there, and its place.
+// Whether an offset is there.
+pub fn contains(row: &[u32], len: usize, off: u32) -> bool
+    requires { ⌜ len ≤ length (now row) ⌝ }
+    ensures { λ r. ⌜ r ≡ foundIn (now (row .entry)) len off ⌝ }
+{
+    let i = below(row, len, off);
+    if len <= i {
+        return false;
+    }
+    row[i] == off
+}
+
+// The same with its place.
 pub fn search(row: &[u32], len: usize, off: u32) -> Place
     requires { ⌜ len ≤ length (now row) ⌝ }
     ensures { λ r. ⌜ r ≡ searchIn (now (row .entry)) len off ⌝ }

@@ -10,7 +10,7 @@ use Rattle.dense.proofs.write_row.Statement.{statement}
 use Rattle.dense.proofs.write_row.Tie as tie
 
 abbrev Inv-loop : tie.InvT-loop
-Inv-loop words₀ row len s i₀ words i = (i ≤ len) × (length words ≡ length words₀) × (words ≡ withRow words₀ 0 row (2 ^ s) i)
+Inv-loop words₀ row len s i₀ words i = (i ≤ len) × (length words ≡ length words₀) × (words ≡ withRow words₀ row (2 ^ s) i)
 
 abbrev μ-loop : tie.MeasureT-loop
 μ-loop words₀ row len s i₀ words i = len - i
@@ -77,7 +77,7 @@ returns c =
     let l = c .before .loop in
     let a = c .before .before .args in
     let e : l .i ≡ a .len = omega arith in
-    l .inv .2 ∙ ap (withRow (a .words .now) 0 (a .row .now) (2 ^ a .s)) e
+    l .inv .2 ∙ ap (withRow (a .words .now) (a .row .now) (2 ^ a .s)) e
 
 pub write-row-spec : {M : Type 1} → statement M
 write-row-spec =

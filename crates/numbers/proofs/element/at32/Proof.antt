@@ -2,8 +2,8 @@
 use mathlib.Core.Path.{sym}
 use lib.ListN.{List·getD-eq-default}
 use borrow.Author.Needs.{needs}
-use Rattle.numbers.proofs.place.at32.Statement.{statement}
-use Rattle.numbers.proofs.place.at32.Tie as tie
+use Rattle.numbers.proofs.element.at32.Statement.{statement}
+use Rattle.numbers.proofs.element.at32.Tie as tie
 
 mul-result : tie.Need-mul-result
 mul-result c = search needs

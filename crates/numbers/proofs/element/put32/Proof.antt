@@ -2,8 +2,8 @@
 use mathlib.Core.Path.{sym}
 use lib.Seq.{set-out}
 use borrow.Author.Needs.{needs}
-use Rattle.numbers.proofs.place.put.Statement.{statement}
-use Rattle.numbers.proofs.place.put.Tie as tie
+use Rattle.numbers.proofs.element.put32.Statement.{statement}
+use Rattle.numbers.proofs.element.put32.Tie as tie
 
 mul-t : tie.Need-mul-t
 mul-t c = search needs
@@ -20,5 +20,5 @@ returns c = search needs
 returns-2 : tie.Need-returns-2
 returns-2 c = sym (set-out _ _ _ (c .if1 .left))
 
-pub put-spec : {M : Type 1} → statement M
-put-spec = tie.close (tie.spec mul-t slice-write-t same-length returns returns-2)
+pub put32-spec : {M : Type 1} → statement M
+put32-spec = tie.close (tie.spec mul-t slice-write-t same-length returns returns-2)

@@ -2,8 +2,8 @@
 use mathlib.Core.Path.{sym}
 use lib.ListN.{List·getD-eq-default}
 use borrow.Author.Needs.{needs}
-use Rattle.numbers.proofs.place.at.Statement.{statement}
-use Rattle.numbers.proofs.place.at.Tie as tie
+use Rattle.numbers.proofs.element.at.Statement.{statement}
+use Rattle.numbers.proofs.element.at.Tie as tie
 
 mul-result : tie.Need-mul-result
 mul-result c = search needs
