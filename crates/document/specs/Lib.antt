@@ -4,6 +4,7 @@ pub mod Refusals
 pub mod Room
 pub mod Insert
 pub mod Prepare
+pub mod Union
 pub mod Iteration
 pub mod Calls
 pub mod Answers
