@@ -5,6 +5,7 @@ pub mod Room
 pub mod Insert
 pub mod Prepare
 pub mod Iteration
+pub mod Listings
 pub mod Calls
 pub mod Answers
 pub mod Plan
