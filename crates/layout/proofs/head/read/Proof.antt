@@ -3,23 +3,23 @@ use borrow.Author.Needs.{needs}
 use Rattle.layout.proofs.head.read.Statement.{statement}
 use Rattle.layout.proofs.head.read.Tie as tie
 
-at-requires : tie.Need-at-requires
-at-requires c κs = search needs
+shift-requires : tie.Need-shift-requires
+shift-requires c κs = search needs
 
-at-requires-2 : tie.Need-at-requires-2
-at-requires-2 c κs = search needs
+row-size-requires : tie.Need-row-size-requires
+row-size-requires c κs = search needs
 
-at-requires-3 : tie.Need-at-requires-3
-at-requires-3 c κs = search needs
+direct-requires : tie.Need-direct-requires
+direct-requires c κs = search needs
 
-at-requires-4 : tie.Need-at-requires-4
-at-requires-4 c κs = search needs
+overflow-requires : tie.Need-overflow-requires
+overflow-requires c κs = search needs
 
-at-requires-5 : tie.Need-at-requires-5
-at-requires-5 c κs = search needs
+rows-requires : tie.Need-rows-requires
+rows-requires c κs = search needs
 
-at-requires-6 : tie.Need-at-requires-6
-at-requires-6 c κs = search needs
+pages-requires : tie.Need-pages-requires
+pages-requires c κs = search needs
 
 returns : tie.Need-returns
 returns c = cc
@@ -28,10 +28,10 @@ pub read-spec : {M : Type 1} → statement M
 read-spec =
     tie.close
     (tie.spec
-    at-requires
-    at-requires-2
-    at-requires-3
-    at-requires-4
-    at-requires-5
-    at-requires-6
+    shift-requires
+    row-size-requires
+    direct-requires
+    overflow-requires
+    rows-requires
+    pages-requires
     returns)
