@@ -1,13 +1,13 @@
 // The walk over the table that calls make before they write to many chunks, or plan: every rule that is the table's alone.
 ghost use mathlib.Core.Path.{_≡_};
-ghost use Prim.Native.Nat.{_+_, _≤_, _<_};
+ghost use Prim.Native.Nat.{_+_, _≤_};
 ghost use lib.ListN.{length};
 ghost use lib.Dec.{eqb};
 ghost use Rattle.sums.specs.Rules.{allTo};
 ghost use Rattle.layout.specs.Mem.{memOf};
 ghost use Rattle.document.specs.Sizes.{InRange};
 ghost use Rattle.layout.specs.Sizes.{tableSize, overCount};
-ghost use Rattle.layout.specs.Tests.{keyIs, wordIs, placeIs, prefixAfter, prefixRises, totalFits, headIs, overIs, entriesAre, tableIs, walked};
+ghost use Rattle.layout.specs.Tests.{keyIs, wordIs, placeIs, ranksRise, headIs, overIs, entriesAre, tableIs, walked};
 use crate::entry;
 use crate::head;
 use crate::owners;
@@ -99,57 +99,46 @@ pub fn place_is(table: &[u64], h: Sizes, e: u64) -> bool
     }
 }
 
-// What the prefix of entry e may reach: the next one's, after the last entry the total.
-pub fn prefix_after(table: &[u64], h: Sizes, e: u64) -> u64
-    requires { ⌜ InRange h × (e < 327680) × (overCount (now table) ≤ 65536) ⌝ }
-    ensures { λ n. ⌜ n ≡ prefixAfter h (now (table .entry)) e ⌝ }
-{
-    if h.d + element::at(table, 7) <= e + 1 {
-        return element::at(table, 8);
-    }
-    entry::prefix_at(table, h, e + 1)
-}
-
-// An open set keeps no prefixes.
-pub fn prefix_rises(table: &[u64], h: Sizes, e: u64) -> bool
-    requires { ⌜ InRange h × (e < 327680) × (overCount (now table) ≤ 65536) ⌝ }
-    ensures { λ b. ⌜ b ≡ prefixRises h (now (table .entry)) e ⌝ }
-{
-    if element::at(table, 6) != 1 {
-        return true;
-    }
-    entry::prefix_at(table, h, e) <= prefix_after(table, h, e)
-}
-
-// All entries in one pass: their places and prefixes, and how many rows and pages they name.
+// All entries in one pass: their places, and how many rows and pages they name.
 pub fn entries_are(table: &[u64], h: Sizes) -> bool
     requires { ⌜ InRange h × (overCount (now table) ≤ 65536) ⌝ }
     ensures { λ b. ⌜ b ≡ entriesAre h (now (table .entry)) ⌝ }
 {
     let n = h.d + element::at(table, 7);
-    let mut own = true;
-    let mut rising = true;
+    let mut ok = true;
     let mut rows: u64 = 0;
     let mut pages: u64 = 0;
     let mut e: u64 = 0;
     while e < n {
         let q = entry::place_at(table, h, e);
-        own = own & place_is(table, h, e);
-        rising = rising & prefix_rises(table, h, e);
+        ok = ok & place_is(table, h, e);
         rows += place::has_row(q) as u64;
         pages += place::has_page(q) as u64;
         e += 1;
     }
-    own
-        & ((owners::rows_owned(table, h) == rows) & (owners::pages_owned(table, h) == pages))
-        & rising
+    ok & ((owners::rows_owned(table, h) == rows) & (owners::pages_owned(table, h) == pages))
 }
 
-// The total of a ranked set is below 2^63.
-pub fn total_fits(table: &[u64]) -> bool
-    ensures { λ b. ⌜ b ≡ totalFits (now (table .entry)) ⌝ }
+// Prefixes of a ranked set, each read once; an open one keeps none.
+pub fn ranks_rise(table: &[u64], h: Sizes) -> bool
+    requires { ⌜ InRange h × (overCount (now table) ≤ 65536) ⌝ }
+    ensures { λ b. ⌜ b ≡ ranksRise h (now (table .entry)) ⌝ }
 {
-    (element::at(table, 6) != 1) | (element::at(table, 8) < 9223372036854775808)
+    if element::at(table, 6) != 1 {
+        return true;
+    }
+    let n = h.d + element::at(table, 7);
+    let mut ok = true;
+    let mut prefix: u64 = 0;
+    let mut e: u64 = 0;
+    while e < n {
+        let next = entry::prefix_at(table, h, e);
+        ok = ok & (prefix <= next);
+        prefix = next;
+        e += 1;
+    }
+    let total = element::at(table, 8);
+    ok & (prefix <= total) & (total < 9223372036854775808)
 }
 
 // The sizes are allowed, the slices long enough, the mode is known and the overflow entries in use fit.
@@ -170,12 +159,12 @@ pub fn head_is(h: Sizes, pages: &[u64], rows: &[u32], blocks: &[u32], table: &[u
         & (element::at(table, 7) <= h.v)
 }
 
-// The table past its sizes: unused words, overflow entries, all entries, the total.
+// The table past its sizes: unused words, overflow entries, all entries, prefixes.
 pub fn table_is(table: &[u64], h: Sizes) -> bool
     requires { ⌜ InRange h × (tableSize h ≤ length (now table)) × (overCount (now table) ≤ h .v) ⌝ }
     ensures { λ b. ⌜ b ≡ tableIs h (now (table .entry)) ⌝ }
 {
-    zeros::zeros64(table, 9, 7) & over_is(table, h) & entries_are(table, h) & total_fits(table)
+    zeros::zeros64(table, 9, 7) & over_is(table, h) & entries_are(table, h) & ranks_rise(table, h)
 }
 
 // After it nothing of the table can be found wrong.

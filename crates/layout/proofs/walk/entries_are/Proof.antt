@@ -1,4 +1,4 @@
--- What was found so far is the rule over the entries passed, and the counts are theirs. Assumes nothing.
+-- The answer so far is the rule over the entries passed, and the counts are theirs. Assumes nothing.
 use Prim.Native.Nat.{_+_, _-_, _≤_}
 use mathlib.Core.Path.{_≡_, _∙_, ap, sym}
 use native.Mathlib.Omega.{arith}
@@ -8,19 +8,18 @@ use Rattle.sums.specs.Rules.{allTo}
 use Rattle.sums.proofs.Rules.{all-none, all-more}
 use Rattle.sums.proofs.Counts.{byte-le, count-zero}
 use Rattle.layout.specs.Places.{hasRow, hasPage}
-use Rattle.layout.specs.Tests.{placeIs, sparseIn, denseIn, prefixRises}
+use Rattle.layout.specs.Tests.{placeIs, sparseIn, denseIn}
 use Rattle.layout.proofs.Free.{count-more}
 use Rattle.layout.proofs.Walks.{entries-pass}
 use Rattle.layout.proofs.walk.entries_are.Statement.{statement}
 use Rattle.layout.proofs.walk.entries_are.Tie as tie
 
 abbrev Inv-loop : tie.InvT-loop
-Inv-loop table h n own₀ rising₀ rows₀ pages₀ e₀ own rising rows pages e =
-    (e ≤ n) × (rows ≤ e) × (pages ≤ e) × (own ≡ allTo (placeIs h table) e) × (rising ≡ allTo (prefixRises h table) e)
-    × (rows ≡ sparseIn h table e) × (pages ≡ denseIn h table e)
+Inv-loop table h n ok₀ rows₀ pages₀ e₀ ok rows pages e =
+    (e ≤ n) × (rows ≤ e) × (pages ≤ e) × (ok ≡ allTo (placeIs h table) e) × (rows ≡ sparseIn h table e) × (pages ≡ denseIn h table e)
 
 abbrev μ-loop : tie.MeasureT-loop
-μ-loop table h n own₀ rising₀ rows₀ pages₀ e₀ own rising rows pages e = n - e
+μ-loop table h n ok₀ rows₀ pages₀ e₀ ok rows pages e = n - e
 
 at-requires : tie.Need-at-requires Inv-loop μ-loop
 at-requires c κs = search needs
@@ -29,18 +28,13 @@ add-n : tie.Need-add-n Inv-loop μ-loop
 add-n c = omega (arith, c .before .at .ensures, c .before .before .before .pre)
 
 loop-holds : tie.Need-loop-holds Inv-loop μ-loop
-loop-holds c = (omega arith, omega arith, omega arith, all-none _, all-none _, sym (count-zero _), sym (count-zero _))
+loop-holds c = (omega arith, omega arith, omega arith, all-none _, sym (count-zero _), sym (count-zero _))
 
 place-at-requires : tie.Need-place-at-requires Inv-loop μ-loop
 place-at-requires c κs = let p = c .before .before .before .before .before .pre in (p .0, omega (arith, c .before .before .before .at .ensures, p))
 
 place-is-requires : tie.Need-place-is-requires Inv-loop μ-loop
 place-is-requires c κs = let p = c .before .before .before .before .before .before .pre in (p .0, omega (arith, c .before .before .before .before .at .ensures, p))
-
-prefix-rises-requires : tie.Need-prefix-rises-requires Inv-loop μ-loop
-prefix-rises-requires c κs =
-    let p = c .before .before .before .before .before .before .before .pre in
-    (p .0, omega (arith, c .before .before .before .before .before .at .ensures, p), p .1)
 
 has-row-requires : tie.Need-has-row-requires Inv-loop μ-loop
 has-row-requires c κs = search needs
@@ -68,15 +62,14 @@ loop-less c = omega arith
 
 loop-again : tie.Need-loop-again Inv-loop μ-loop
 loop-again c =
-    let l = c .before .before .before .before .before .before .loop in
-    let q = c .before .before .before .before .place-at .ensures in (
+    let l = c .before .before .before .before .before .loop in
+    let q = c .before .before .before .place-at .ensures in (
       omega arith,
       omega (arith, byte-le (c .before .has-row .result)),
       omega (arith, byte-le (c .has-page .result)),
-      all-more _ (l .e) _ _ (l .inv .3) (c .before .before .before .place-is .ensures),
-      all-more _ (l .e) _ _ (l .inv .4) (c .before .before .prefix-rises .ensures),
-      count-more _ (l .e) _ _ (l .inv .5) (c .before .has-row .ensures ∙ ap hasRow q),
-      count-more _ (l .e) _ _ (l .inv .6) (c .has-page .ensures ∙ ap hasPage q),
+      all-more _ (l .e) _ _ (l .inv .3) (c .before .before .place-is .ensures),
+      count-more _ (l .e) _ _ (l .inv .4) (c .before .has-row .ensures ∙ ap hasRow q),
+      count-more _ (l .e) _ _ (l .inv .5) (c .has-page .ensures ∙ ap hasPage q),
     )
 
 rows-owned-requires : tie.Need-rows-owned-requires Inv-loop μ-loop
@@ -90,7 +83,7 @@ returns c =
     let l = c .before .before .before .loop in
     let a = c .before .before .before .before .before .before .before .args in
     let e : l .e ≡ a .h .d + getD (a .table .now) 7 0 = omega (arith, c .before .before .before .before .before .at .ensures) in
-    entries-pass (a .h) (a .table .now) (l .e) e _ _ _ _ _ _ (l .inv .3) (c .before .rows-owned .ensures) (l .inv .5) (c .pages-owned .ensures) (l .inv .6) (l .inv .4)
+    entries-pass (a .h) (a .table .now) (l .e) e _ _ _ _ _ (l .inv .3) (c .before .rows-owned .ensures) (l .inv .4) (c .pages-owned .ensures) (l .inv .5)
 
 pub entries-are-spec : {M : Type 1} → statement M
 entries-are-spec =
@@ -103,7 +96,6 @@ entries-are-spec =
     loop-holds
     place-at-requires
     place-is-requires
-    prefix-rises-requires
     has-row-requires
     cast-rows
     add-rows

@@ -14,13 +14,13 @@ over-is-requires c κs = c .before .before .pre
 entries-are-requires : tie.Need-entries-are-requires
 entries-are-requires c κs = let p = c .before .before .before .pre in (p .0, omega (arith, p .0 .v-high, p .2))
 
-total-fits-requires : tie.Need-total-fits-requires
-total-fits-requires c κs = search needs
+ranks-rise-requires : tie.Need-ranks-rise-requires
+ranks-rise-requires c κs = let p = c .before .before .before .before .pre in (p .0, omega (arith, p .0 .v-high, p .2))
 
 returns : tie.Need-returns
-returns c = table-passes _ _ _ _ _ _ (c .before .before .before .zeros64 .ensures) (c .before .before .over-is .ensures) (c .before .entries-are .ensures) (c .total-fits .ensures)
+returns c = table-passes _ _ _ _ _ _ (c .before .before .before .zeros64 .ensures) (c .before .before .over-is .ensures) (c .before .entries-are .ensures) (c .ranks-rise .ensures)
 
 pub table-is-spec : {M : Type 1} → statement M
 table-is-spec =
     tie.close
-    (tie.spec zeros64-requires over-is-requires entries-are-requires total-fits-requires returns)
+    (tie.spec zeros64-requires over-is-requires entries-are-requires ranks-rise-requires returns)
