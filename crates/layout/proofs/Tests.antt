@@ -1,11 +1,12 @@
 -- Each test of the sizes, the lengths and the table decides its rule, and the walk all of them. Assumes nothing.
-use mathlib.Core.Path.{_≡_, refl, sym}
+use mathlib.Core.Path.{_≡_, refl, sym, ap}
 use mathlib.Core.Logic.{_≢_}
 use mathlib.Core.List.{List}
-use mathlib.Core.Bool.{Bool, true, false}
+use mathlib.Core.Bool.{Bool, true, false, cond}
 use Prim.Native.Nat.{ℕ, _+_, _*_, _-_, _^_, _≤_, _<_}
 use native.Mathlib.Omega.{arith}
 use lib.ListN.{length, getD}
+use borrow.Author.Tests.{lt-ltb, le-ltb}
 use Rattle.sums.specs.Rules.{allTo, Decides}
 use Rattle.sums.proofs.Rules.{all-of, and-of, unless-of, not-of, if-of, bool-of, same-of, leb-of, ltb-of, eqb-of}
 use Rattle.layout.specs.Mem.{Mem}
@@ -81,6 +82,18 @@ owned-of h t c (Dense p) =
     (and-of (ltb-of p (h .p)) (eqb-of (pageOwner h t p) (c + 1)))
     (λ q. record { there = q .0; owner = q .1 })
     (λ g. (g .there, g .owner))
+
+-- ---- prefixes
+
+-- what follows the prefix of entry e
+module _ (h : Sizes) (t : List ℕ) (e : ℕ) where
+  pub after-entry : e + 1 < entries h t → prefixAfter h t e ≡ prefixAt h t (e + 1)
+  unfolding prefixAfter
+  after-entry l = ap (λ (b : Bool). cond b (prefixAt h t (e + 1)) (totalAt t)) (lt-ltb (e + 1) (entries h t) l)
+
+  pub after-all : entries h t ≤ e + 1 → prefixAfter h t e ≡ totalAt t
+  unfolding prefixAfter
+  after-all l = ap (λ (b : Bool). cond b (prefixAt h t (e + 1)) (totalAt t)) (le-ltb (e + 1) (entries h t) l)
 
 -- ---- the walk
 

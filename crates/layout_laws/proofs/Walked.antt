@@ -21,8 +21,7 @@ use Rattle.layout.specs.Follows.{Owned, sizeOf, membersAt, kept, Laid, Follows}
 use Rattle.layout.specs.Tests.{prefixAfter, Walked, walked}
 use Rattle.layout.specs.declared.place.Place.{Place}
 use Rattle.layout.specs.declared.place.Place.the-variants.{Absent, Sparse, Dense}
-use Rattle.layout.proofs.Tests.{walked-of}
-use Rattle.layout.proofs.Walks.{after-entry, after-all}
+use Rattle.layout.proofs.Tests.{after-entry, after-all, walked-of}
 use Rattle.layout_laws.specs.Chunks.{entryFrom, firstRank}
 
 -- ---- members are few
