@@ -1,4 +1,5 @@
 -- Six elements of the table. Assumes nothing.
+use Rattle.layout.proofs.Heads.{header-read}
 use borrow.Author.Needs.{needs}
 use Rattle.layout.proofs.head.read.Statement.{statement}
 use Rattle.layout.proofs.head.read.Tie as tie
@@ -22,7 +23,9 @@ pages-requires : tie.Need-pages-requires
 pages-requires c κs = search needs
 
 returns : tie.Need-returns
-returns c = cc
+returns c =
+    let b = c .before .before .before in
+    header-read (b .before .before .before .before .args .table .now) _ _ _ _ _ _ (b .before .before .at .ensures) (b .before .at2 .ensures) (b .at3 .ensures) (c .before .before .at4 .ensures) (c .before .at5 .ensures) (c .at6 .ensures)
 
 pub read-spec : {M : Type 1} → statement M
 read-spec =
