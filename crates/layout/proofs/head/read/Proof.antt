@@ -25,7 +25,7 @@ pages-requires c κs = search needs
 returns : tie.Need-returns
 returns c =
     let b = c .before .before .before in
-    header-read (b .before .before .before .before .args .table .now) _ _ _ _ _ _ (b .before .before .at .ensures) (b .before .at2 .ensures) (b .at3 .ensures) (c .before .before .at4 .ensures) (c .before .at5 .ensures) (c .at6 .ensures)
+    header-read (b .before .before .before .before .args .table .now) _ _ _ _ _ _ (b .before .before .shift .ensures) (b .before .row-size .ensures) (b .direct .ensures) (c .before .before .overflow .ensures) (c .before .rows .ensures) (c .pages .ensures)
 
 pub read-spec : {M : Type 1} → statement M
 read-spec =
