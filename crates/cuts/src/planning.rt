@@ -10,7 +10,7 @@ use crate::round;
 use crate::search;
 use document::plan::Plan;
 use document::plan::Planning;
-use layout::walk;
+use layout_walk::walk;
 use numbers::element;
 use numbers::order;
 

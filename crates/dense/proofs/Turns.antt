@@ -6,7 +6,7 @@ use native.Mathlib.Nat.{zero-add, mod-lt}
 use native.Mathlib.Numerals.{add-one}
 use native.Mathlib.Omega.{arith}
 use lib.Bits.{bitOr}
-use lib.ListN.{length, getD, set, take, drop, drop-of-length-le}
+use lib.ListN.{length, getD, set, take, drop-of-length-le}
 use lib.Pow.{pow-pos}
 use lib.Seq.{paste, paste-suc}
 use Rattle.dense.specs.Bits.{orWords, withBit, withRow}

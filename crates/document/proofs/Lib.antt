@@ -1,3 +1,5 @@
 pub mod Threes
 pub mod Grown
 pub mod Answered
+pub mod Iteration
+pub mod Listings

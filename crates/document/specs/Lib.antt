@@ -6,6 +6,7 @@ pub mod Insert
 pub mod Prepare
 pub mod Union
 pub mod Iteration
+pub mod Listings
 pub mod Calls
 pub mod Answers
 pub mod Plan

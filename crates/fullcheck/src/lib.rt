@@ -13,7 +13,7 @@ ghost use Rattle.contracts.specs.Does.{Answers};
 ghost use Rattle.fullcheck.specs.Check.{restIs};
 use document::sizes::Sizes;
 use layout::head;
-use layout::walk;
+use layout_walk::walk;
 
 // What the walk over the table leaves of the rule, sentence by sentence.
 fn rest_is(pages: &[u64], rows: &[u32], blocks: &[u32], table: &[u64], h: Sizes) -> bool

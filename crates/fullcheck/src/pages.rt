@@ -9,7 +9,7 @@ ghost use Rattle.fullcheck.specs.Check.{freePageIs};
 use document::sizes::Sizes;
 use layout::entry;
 use layout::head;
-use layout::zeros;
+use layout_walk::zeros;
 use numbers::power;
 
 // A page without an owner holds zeros.

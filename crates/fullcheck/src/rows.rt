@@ -11,7 +11,7 @@ use document::sizes::Sizes;
 use layout::entry;
 use layout::head;
 use layout::place::Place;
-use layout::zeros;
+use layout_walk::zeros;
 use numbers::element;
 use numbers::order;
 use numbers::power;

@@ -4,7 +4,7 @@ ghost use Rattle.layout.specs.SetUp.{sizesOf};
 ghost use Rattle.contracts.specs.Does.{SetsUp};
 use document::answer::Outcome;
 use document::sizes::Sizes;
-use layout::setup as lent;
+use layout_writes::setup as lent;
 
 // Makes an empty open set of these sizes in lent memory, whatever it held, or refuses and changes nothing.
 pub fn set_up(

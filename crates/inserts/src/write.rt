@@ -19,7 +19,7 @@ use document::answer::Truth;
 use document::sizes::Sizes;
 use layout::head;
 use layout::place;
-use layout::write;
+use layout_writes::write;
 use numbers::element;
 use numbers::power;
 use steps::turn;

@@ -6,9 +6,9 @@ use Prim.Native.Nat.{ℕ, zero, suc, _+_, _-_, _*_, _/_, _≤_, _<_}
 use native.Mathlib.Omega.{arith}
 use lib.ListN.{length, getD}
 use lib.Dec.{leb, ltb, eqb}
-use borrow.Author.Tests.{lt-ltb, le-ltb, le-leb, lt-leb, leb-true, eq-eqb, ne-eqb, not-true, not-false}
+use borrow.Author.Tests.{lt-ltb, le-ltb, leb-true, eq-eqb, ne-eqb, not-true, not-false}
 use Rattle.sums.proofs.Rules.{both}
-use Rattle.layout.specs.Sizes.{directAt, overCount}
+use Rattle.layout.specs.Sizes.{directAt, overStart, headerAt, overCount}
 use Rattle.layout.specs.Short.{lowerKey, keyAt, overPlace, overWord, entriesIn, directWord, overflowWord, wordIn}
 use Rattle.layout.specs.declared.find.Word.{Word}
 use Rattle.layout.specs.declared.find.Word.the-variants.{Is, Bad}
@@ -80,53 +80,10 @@ module _ (t : List ℕ) (a n c : ℕ) where
 
 -- ---- whether the entries lie inside the table
 
-no-and : (a b : Bool) → a ≡ false → (a && b) ≡ false
-no-and a b e = ap (λ (x : Bool). x && b) e
-
-and-no : (a b : Bool) → b ≡ false → (a && b) ≡ false
-and-no true b e = e
-and-no false b e = refl
-
 module _ (t : List ℕ) (d n : ℕ) (e : n ≡ overCount t) where
-  abbrev direct-ok : Bool
-  direct-ok = leb d 262144
-
-  abbrev over-ok : Bool
-  over-ok = leb (overCount t) 65536
-
-  abbrev long-ok : Bool
-  long-ok = leb (16 + 2 * d + 3 * overCount t) (length t)
-
-  abbrev fits-ok : Bool
-  fits-ok = leb (overCount t) (getD t 3 0)
-
-  pub entries-direct : 262144 < d → entriesIn t d ≡ false
-  entries-direct l = no-and (direct-ok && over-ok && long-ok) fits-ok (no-and (direct-ok && over-ok) long-ok (no-and direct-ok over-ok (lt-leb d 262144 l)))
-
-  pub entries-over : 65536 < n → entriesIn t d ≡ false
-  entries-over l =
-      no-and (direct-ok && over-ok && long-ok) fits-ok
-      (no-and (direct-ok && over-ok) long-ok (and-no direct-ok over-ok (lt-leb (overCount t) 65536 (omega (arith, e)))))
-
-  pub entries-long : length t < 16 + 2 * d + 3 * n → entriesIn t d ≡ false
-  entries-long l =
-      no-and (direct-ok && over-ok && long-ok) fits-ok
-      (and-no (direct-ok && over-ok) long-ok (lt-leb (16 + 2 * d + 3 * overCount t) (length t) (omega (arith, e))))
-
-  pub entries-fit : getD t 3 0 < n → entriesIn t d ≡ false
-  entries-fit l = and-no (direct-ok && over-ok && long-ok) fits-ok (lt-leb (overCount t) (getD t 3 0) (omega (arith, e)))
-
-  pub entries-all : d ≤ 262144 → n ≤ 65536 → 16 + 2 * d + 3 * n ≤ length t → n ≤ getD t 3 0 → entriesIn t d ≡ true
-  entries-all k l m f =
-      ap₂ _&&_
-      (ap₂ _&&_
-      (ap₂ _&&_ (le-leb d 262144 k) (le-leb (overCount t) 65536 (omega (arith, e))))
-      (le-leb (16 + 2 * d + 3 * overCount t) (length t) (omega (arith, e))))
-      (le-leb (overCount t) (getD t 3 0) (omega (arith, e)))
-
   -- the test as one line
   last-two : Bool → Bool
-  last-two b = b && long-ok && fits-ok
+  last-two b = b && leb (overStart d + 3 * overCount t) (length t) && leb (overCount t) (headerAt t .v)
 
   small-is : (b : Bool) → (leb d 262144 && leb n 65536) ≡ b → last-two b ≡ entriesIn t d
   unfolding last-two
@@ -137,9 +94,9 @@ module _ (t : List ℕ) (d n : ℕ) (e : n ≡ overCount t) where
   entries-no h = small-is false (not-true _ h)
 
   module _ (h : not (leb d 262144 && leb n 65536) ≡ false) where
-    pub entries-rest : (v : ℕ) → v ≡ getD t 3 0 → (leb (16 + 2 * d + 3 * n) (length t) && leb n v) ≡ entriesIn t d
+    pub entries-rest : (v : ℕ) → v ≡ headerAt t .v → (leb (overStart d + 3 * n) (length t) && leb n v) ≡ entriesIn t d
     unfolding last-two
-    entries-rest v f = ap₂ (λ (k i : ℕ). leb (16 + 2 * d + 3 * k) (length t) && leb k i) e f ∙ small-is true (not-false _ h)
+    entries-rest v f = ap₂ (λ (k i : ℕ). leb (overStart d + 3 * k) (length t) && leb k i) e f ∙ small-is true (not-false _ h)
 
     pub entries-small : (d ≤ 262144) × (n ≤ 65536)
     entries-small = let a = both (leb d 262144) (leb n 65536) (not-false _ h) in (leb-true d 262144 (a .0), leb-true n 65536 (a .1))
@@ -148,20 +105,20 @@ module _ (t : List ℕ) (d n : ℕ) (e : n ≡ overCount t) where
 pub record EntriesIn (t : List ℕ) (d : ℕ) : Type 0 where
   pub direct : d ≤ 262144
   pub over : overCount t ≤ 65536
-  pub fits : overCount t ≤ getD t 3 0
-  pub long : 16 + 2 * d + 3 * overCount t ≤ length t
+  pub fits : overCount t ≤ headerAt t .v
+  pub long : overStart d + 3 * overCount t ≤ length t
 
 pub entries-are-in : (t : List ℕ) (d : ℕ) → entriesIn t d ≡ true → EntriesIn t d
 entries-are-in t d e =
     let n = overCount t in
-    let a = both (leb d 262144 && leb n 65536 && leb (16 + 2 * d + 3 * n) (length t)) (leb n (getD t 3 0)) e in
-    let b = both (leb d 262144 && leb n 65536) (leb (16 + 2 * d + 3 * n) (length t)) (a .0) in
+    let a = both (leb d 262144 && leb n 65536 && leb (overStart d + 3 * n) (length t)) (leb n (headerAt t .v)) e in
+    let b = both (leb d 262144 && leb n 65536) (leb (overStart d + 3 * n) (length t)) (a .0) in
     let c = both (leb d 262144) (leb n 65536) (b .0) in
     record {
       direct = leb-true d 262144 (c .0);
       over = leb-true n 65536 (c .1);
-      fits = leb-true n (getD t 3 0) (a .1);
-      long = leb-true (16 + 2 * d + 3 * n) (length t) (b .1);
+      fits = leb-true n (headerAt t .v) (a .1);
+      long = leb-true (overStart d + 3 * n) (length t) (b .1);
     }
 
 -- ---- the word of an overflow entry
@@ -185,32 +142,32 @@ module _ (t : List ℕ) (a n c k : ℕ) where
 
 module _ (t : List ℕ) (d c : ℕ) where
   by-test : Bool → Word
-  by-test a = cond a (Is (overWord t (16 + 2 * d) (overCount t) c (overPlace t (16 + 2 * d) (overCount t) c))) Bad
+  by-test a = cond a (Is (overWord t (overStart d) (overCount t) c (overPlace t (overStart d) (overCount t) c))) Bad
 
   pub over-none : entriesIn t d ≡ false → Bad ≡ overflowWord t d c
   unfolding by-test
   over-none g = ap by-test (sym g)
 
-  pub over-found : entriesIn t d ≡ true → (n k w : ℕ) → n ≡ overCount t → k ≡ overPlace t (16 + 2 * d) n c → w ≡ overWord t (16 + 2 * d) n c k
+  pub over-found : entriesIn t d ≡ true → (n k w : ℕ) → n ≡ overCount t → k ≡ overPlace t (overStart d) n c → w ≡ overWord t (overStart d) n c k
       → Is w ≡ overflowWord t d c
   unfolding by-test
   over-found g n k w en ek ew =
-      ap Is (ew ∙ ap (overWord t (16 + 2 * d) n c) ek ∙ ap (λ (j : ℕ). overWord t (16 + 2 * d) j c (overPlace t (16 + 2 * d) j c)) en)
+      ap Is (ew ∙ ap (overWord t (overStart d) n c) ek ∙ ap (λ (j : ℕ). overWord t (overStart d) j c (overPlace t (overStart d) j c)) en)
       ∙ ap by-test (sym g)
 
 -- ---- any chunk's word
 
-module _ (t : List ℕ) (c d : ℕ) (e : d ≡ getD t 2 0) where
+module _ (t : List ℕ) (c d : ℕ) (e : d ≡ headerAt t .d) where
   pub in-overflow : d ≤ c → (w : Word) → w ≡ overflowWord t d c → w ≡ wordIn t c
   unfolding wordIn
   in-overflow l w f =
       f ∙ (ap (λ (i : ℕ). overflowWord t i c) e
-      ∙ ap (λ (b : Bool). cond b (directWord t c) (overflowWord t (getD t 2 0) c)) (sym (le-ltb c (getD t 2 0) (omega (arith, e)))))
+      ∙ ap (λ (b : Bool). cond b (directWord t c) (overflowWord t (headerAt t .d) c)) (sym (le-ltb c (headerAt t .d) (omega (arith, e)))))
 
   module _ (l : c < d) where
     direct : directWord t c ≡ wordIn t c
     unfolding wordIn
-    direct = ap (λ (b : Bool). cond b (directWord t c) (overflowWord t (getD t 2 0) c)) (sym (lt-ltb c (getD t 2 0) (omega (arith, e))))
+    direct = ap (λ (b : Bool). cond b (directWord t c) (overflowWord t (headerAt t .d) c)) (sym (lt-ltb c (headerAt t .d) (omega (arith, e))))
 
     pub in-table : directAt c < length t → Is (getD t (directAt c) 0) ≡ wordIn t c
     in-table g = ap (λ (b : Bool). cond b (Is (getD t (directAt c) 0)) Bad) (sym (lt-ltb (directAt c) (length t) g)) ∙ direct

@@ -1,13 +1,10 @@
+pub mod Heads
 pub mod Places
 pub mod Entries
 pub mod Tests
-pub mod Walks
 pub mod Finds
 pub mod Spots
-pub mod Fills
-pub mod SetUps
 pub mod Seats
-pub mod Free
+pub mod Zeroed
 pub mod Parts
 pub mod Added
-pub mod Gaps

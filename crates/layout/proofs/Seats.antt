@@ -7,7 +7,7 @@ use native.Mathlib.Omega.{arith}
 use lib.ListN.{length, getD}
 use lib.Dec.{eqb}
 use borrow.Author.Tests.{lt-ltb, le-ltb}
-use Rattle.layout.specs.Sizes.{directAt, overCount, totalAt}
+use Rattle.layout.specs.Sizes.{directAt, overStart, headerAt, overCount, totalAt}
 use Rattle.layout.specs.Short.{keyAt, overPlace, overWord, entriesIn}
 use Rattle.layout.specs.Seat.{directSeat, overSeat, overflowSeat, seatIn}
 use Rattle.layout.specs.declared.seat.Seat.{Seat}
@@ -34,35 +34,35 @@ module _ (t : List ℕ) (a n c k : ℕ) where
 
 module _ (t : List ℕ) (d c : ℕ) where
   by-test : Bool → Seat
-  by-test a = cond a (overSeat t (16 + 2 * d) (overCount t) c (overPlace t (16 + 2 * d) (overCount t) c)) Bad
+  by-test a = cond a (overSeat t (overStart d) (overCount t) c (overPlace t (overStart d) (overCount t) c)) Bad
 
   pub seat-none : entriesIn t d ≡ false → Bad ≡ overflowSeat t d c
   unfolding by-test
   seat-none g = ap by-test (sym g)
 
-  pub seat-found : entriesIn t d ≡ true → (n k : ℕ) (q : Seat) → n ≡ overCount t → k ≡ overPlace t (16 + 2 * d) n c
-      → q ≡ overSeat t (16 + 2 * d) n c k → q ≡ overflowSeat t d c
+  pub seat-found : entriesIn t d ≡ true → (n k : ℕ) (q : Seat) → n ≡ overCount t → k ≡ overPlace t (overStart d) n c
+      → q ≡ overSeat t (overStart d) n c k → q ≡ overflowSeat t d c
   unfolding by-test
   seat-found g n k q en ek eq =
       eq
-      ∙ ap (overSeat t (16 + 2 * d) n c) ek
-      ∙ ap (λ (j : ℕ). overSeat t (16 + 2 * d) j c (overPlace t (16 + 2 * d) j c)) en
+      ∙ ap (overSeat t (overStart d) n c) ek
+      ∙ ap (λ (j : ℕ). overSeat t (overStart d) j c (overPlace t (overStart d) j c)) en
       ∙ ap by-test (sym g)
 
 -- ---- any chunk
 
-module _ (t : List ℕ) (c d : ℕ) (e : d ≡ getD t 2 0) where
+module _ (t : List ℕ) (c d : ℕ) (e : d ≡ headerAt t .d) where
   by-direct : Bool → Seat
-  by-direct b = cond b (directSeat t c) (overflowSeat t (getD t 2 0) c)
+  by-direct b = cond b (directSeat t c) (overflowSeat t (headerAt t .d) c)
 
   pub in-overflow : d ≤ c → (q : Seat) → q ≡ overflowSeat t d c → q ≡ seatIn t c
   unfolding seatIn by-direct
-  in-overflow l q f = f ∙ (ap (λ (i : ℕ). overflowSeat t i c) e ∙ ap by-direct (sym (le-ltb c (getD t 2 0) (omega (arith, e)))))
+  in-overflow l q f = f ∙ (ap (λ (i : ℕ). overflowSeat t i c) e ∙ ap by-direct (sym (le-ltb c (headerAt t .d) (omega (arith, e)))))
 
   module _ (l : c < d) where
     direct : directSeat t c ≡ seatIn t c
     unfolding seatIn by-direct
-    direct = ap by-direct (sym (lt-ltb c (getD t 2 0) (omega (arith, e))))
+    direct = ap by-direct (sym (lt-ltb c (headerAt t .d) (omega (arith, e))))
 
     pub in-table : directAt c + 1 < length t → At (getD t (directAt c) 0) (getD t (directAt c + 1) 0) ≡ seatIn t c
     in-table g = ap (λ (b : Bool). cond b (At (getD t (directAt c) 0) (getD t (directAt c + 1) 0)) Bad) (sym (lt-ltb (directAt c + 1) (length t) g)) ∙ direct

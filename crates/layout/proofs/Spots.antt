@@ -5,7 +5,6 @@ use mathlib.Core.Bool.{Bool, true, false, cond, not, _&&_}
 use Prim.Native.Nat.{ℕ, suc, _+_, _-_, _*_, _/_, _^_, _≤_, _<_}
 use native.Mathlib.Omega.{arith}
 use native.Mathlib.Nat.{div-add-mod', mod-lt, mul-le-mul-right, suc-mul}
-use lib.ListN.{getD}
 use lib.Pow.{pow-pos}
 use lib.Dec.{leb, ltb}
 use borrow.Author.Tests.{le-leb, lt-leb, leb-true, ltb-true, ltb-false, not-true, not-false}
@@ -14,7 +13,7 @@ use mir.Val.{Fits}
 use Rattle.sums.proofs.Rules.{both}
 use Rattle.numbers.proofs.Powers.{times-most}
 use Rattle.document.specs.declared.sizes.Sizes.{Sizes}
-use Rattle.layout.specs.Sizes.{wide, headerAt}
+use Rattle.layout.specs.Sizes.{headerAt}
 use Rattle.layout.specs.Places.{decoded}
 use Rattle.layout.specs.Short.{spotAt, spotOf}
 use Rattle.layout.specs.declared.find.Spot.{Spot}
@@ -29,12 +28,12 @@ spot-way h pages rows w q p e f = ap (spotAt h pages rows) (sym f ∙ e)
 
 -- ---- a row
 
-module _ (t : List ℕ) (rows r l m n : ℕ) (em : m ≡ getD t 1 0) (en : n ≡ getD t 4 0) where
+module _ (t : List ℕ) (rows r l m n : ℕ) (em : m ≡ headerAt t .m) (en : n ≡ headerAt t .r) where
   abbrev row-last : Bool
-  row-last = leb (r * getD t 1 0 + getD t 1 0) rows
+  row-last = leb (r * headerAt t .m + headerAt t .m) rows
 
   by-row : Bool → Bool → Spot
-  by-row a b = cond (a && b) (Row (r * getD t 1 0) (getD t 1 0) l) Bad
+  by-row a b = cond (a && b) (Row (r * headerAt t .m) (headerAt t .m) l) Bad
 
   row-first : (b : Bool) → (ltb r n && leb m 1024 && leb l m) ≡ b → by-row b row-last ≡ spotAt (headerAt t) 0 rows (Sparse r l)
   unfolding by-row
@@ -52,18 +51,18 @@ module _ (t : List ℕ) (rows r l m n : ℕ) (em : m ≡ getD t 1 0) (en : n ≡
       pub row-sum : r ≤ 262144 → Fits w64 (a + m)
       row-sum k = let s = row-small in let z : r * m ≤ 2 ^ 36 = times-most r m k (omega arith) in record { fits = omega (arith, ea) }
 
-      row-starts : a ≡ r * getD t 1 0
+      row-starts : a ≡ r * headerAt t .m
       row-starts = ea ∙ ap (λ (i : ℕ). r * i) em
 
       pub row-out : rows < a + m → Bad ≡ spotAt (headerAt t) 0 rows (Sparse r l)
       unfolding by-row
-      row-out i = ap (by-row true) (sym (lt-leb (r * getD t 1 0 + getD t 1 0) rows (omega (arith, row-starts, em)))) ∙ row-first true (not-false _ h)
+      row-out i = ap (by-row true) (sym (lt-leb (r * headerAt t .m + headerAt t .m) rows (omega (arith, row-starts, em)))) ∙ row-first true (not-false _ h)
 
       pub row-there : a + m ≤ rows → Row a m l ≡ spotAt (headerAt t) 0 rows (Sparse r l)
       unfolding by-row
       row-there i =
           ap₂ (λ (b k : ℕ). Row b k l) row-starts em
-          ∙ ap (by-row true) (sym (le-leb (r * getD t 1 0 + getD t 1 0) rows (omega (arith, row-starts, em))))
+          ∙ ap (by-row true) (sym (le-leb (r * headerAt t .m + headerAt t .m) rows (omega (arith, row-starts, em))))
           ∙ row-first true (not-false _ h)
 
 -- ---- a page
@@ -80,9 +79,9 @@ page-ends p w n some = go (ltb p (n / w)) refl
         let l = mul-le-mul-right {m = n / w} {n = p} w (ltb-false p (n / w) e) in
         sym (lt-leb (p * w + w) n (omega (arith, div-add-mod' n w, mod-lt n some, l)))
 
-module _ (t : List ℕ) (pages p k n b : ℕ) (ek : k ≡ getD t 0 0 - 6) (en : n ≡ getD t 5 0) (eb : b ≡ pages / 2 ^ k) where
+module _ (t : List ℕ) (pages p k n b : ℕ) (ek : k ≡ headerAt t .s - 6) (en : n ≡ headerAt t .p) (eb : b ≡ pages / 2 ^ k) where
   abbrev width : ℕ
-  width = 2 ^ (getD t 0 0 - 6)
+  width = 2 ^ (headerAt t .s - 6)
 
   by-page : Bool → Spot
   by-page a = cond a (Page (p * width) width) Bad
@@ -90,7 +89,7 @@ module _ (t : List ℕ) (pages p k n b : ℕ) (ek : k ≡ getD t 0 0 - 6) (en : 
   wide-some : 0 < 2 ^ k
   wide-some = pow-pos k
 
-  page-test : (ltb p n && ltb p b) ≡ (ltb p (getD t 5 0) && leb (p * width + width) pages)
+  page-test : (ltb p n && ltb p b) ≡ (ltb p (headerAt t .p) && leb (p * width + width) pages)
   page-test =
       ap₂ _&&_ (ap (ltb p) en)
       (ap (ltb p) eb ∙ page-ends p (2 ^ k) pages wide-some ∙ ap (λ (j : ℕ). leb (p * 2 ^ j + 2 ^ j) pages) ek)

@@ -1,11 +1,12 @@
 -- Each test of the sizes, the lengths and the table decides its rule, and the walk all of them. Assumes nothing.
-use mathlib.Core.Path.{_≡_, refl, sym}
+use mathlib.Core.Path.{_≡_, refl, sym, ap}
 use mathlib.Core.Logic.{_≢_}
 use mathlib.Core.List.{List}
-use mathlib.Core.Bool.{Bool, true, false}
+use mathlib.Core.Bool.{Bool, true, false, cond}
 use Prim.Native.Nat.{ℕ, _+_, _*_, _-_, _^_, _≤_, _<_}
 use native.Mathlib.Omega.{arith}
 use lib.ListN.{length, getD}
+use borrow.Author.Tests.{lt-ltb, le-ltb}
 use Rattle.sums.specs.Rules.{allTo, Decides}
 use Rattle.sums.proofs.Rules.{all-of, and-of, unless-of, not-of, if-of, bool-of, same-of, leb-of, ltb-of, eqb-of}
 use Rattle.layout.specs.Mem.{Mem}
@@ -14,7 +15,7 @@ use Rattle.layout.specs.Sizes.{Roomy, RoomIn, wide, blocksOf, overAt, ta
 use Rattle.layout.specs.Places.{rowOwner, pageOwner}
 use Rattle.layout.specs.Entries.{entries, chunkAt, prefixAt, placeAt}
 use Rattle.layout.specs.Follows.{AllZero, Key, Owned}
-use Rattle.layout.specs.Tests.{inRange, roomy, roomIn, zeroAt, zeros, keyIs, wordIs, ownedIs, placeIs, rowsOwned, pagesOwned, sparseIn, denseIn, ownersAre, rankedAt, prefixAfter, prefixRises, totalFits, Walked, headIs, overIs, entriesAre, tableIs, walked}
+use Rattle.layout.specs.Tests.{inRange, roomy, roomIn, zeroAt, zeros, keyIs, wordIs, ownedIs, placeIs, rowsOwned, pagesOwned, sparseIn, denseIn, ownersAre, rankedAt, prefixAfter, prefixRises, ranksRise, Walked, headIs, overIs, entriesAre, tableIs, walked}
 use Rattle.document.specs.declared.sizes.Sizes.{Sizes}
 use Rattle.layout.specs.declared.place.Place.{Place}
 use Rattle.layout.specs.declared.place.Place.the-variants.{Absent, Sparse, Dense}
@@ -82,6 +83,18 @@ owned-of h t c (Dense p) =
     (λ q. record { there = q .0; owner = q .1 })
     (λ g. (g .there, g .owner))
 
+-- ---- prefixes
+
+-- what follows the prefix of entry e
+module _ (h : Sizes) (t : List ℕ) (e : ℕ) where
+  pub after-entry : e + 1 < entries h t → prefixAfter h t e ≡ prefixAt h t (e + 1)
+  unfolding prefixAfter
+  after-entry l = ap (λ (b : Bool). cond b (prefixAt h t (e + 1)) (totalAt t)) (lt-ltb (e + 1) (entries h t) l)
+
+  pub after-all : entries h t ≤ e + 1 → prefixAfter h t e ≡ totalAt t
+  unfolding prefixAfter
+  after-all l = ap (λ (b : Bool). cond b (prefixAt h t (e + 1)) (totalAt t)) (le-ltb (e + 1) (entries h t) l)
+
 -- ---- the walk
 
 pub record HeadIs (h : Sizes) (x : Mem) : Type 0 where
@@ -114,16 +127,17 @@ module _ (h : Sizes) (t : List ℕ) where
   unfolding ownersAre
   owners-of = and-of (eqb-of (rowsOwned h t) (sparseIn h t (entries h t))) (eqb-of (pagesOwned h t) (denseIn h t (entries h t)))
 
-  rising-of : Decides (allTo (prefixRises h t) (entries h t)) ((e : ℕ) → e < entries h t → rankedAt t ≡ true → prefixAt h t e ≤ prefixAfter h t e)
-  unfolding prefixRises
-  rising-of = all-of (prefixRises h t) (entries h t) (λ e l. if-of (bool-of (rankedAt t)) (leb-of (prefixAt h t e) (prefixAfter h t e)))
+  Rises : Type 0
+  Rises = ((e : ℕ) → e < entries h t → prefixAt h t e ≤ prefixAfter h t e) × (totalAt t < 2 ^ 63)
 
-  total-of : Decides (totalFits t) (rankedAt t ≡ true → totalAt t < 2 ^ 63)
-  unfolding totalFits
-  total-of = if-of (bool-of (rankedAt t)) (ltb-of (totalAt t) (2 ^ 63))
+  rise-of : Decides (ranksRise h t) (rankedAt t ≡ true → Rises)
+  unfolding ranksRise prefixRises Rises
+  rise-of =
+      if-of (bool-of (rankedAt t))
+      (and-of (all-of (prefixRises h t) (entries h t) (λ e l. leb-of (prefixAt h t e) (prefixAfter h t e))) (ltb-of (totalAt t) (2 ^ 63)))
 
 pub walked-of : (x : Mem) → Decides (walked x) (Walked x (head x))
-unfolding walked tableIs overIs entriesAre
+unfolding walked tableIs overIs entriesAre Rises
 walked-of x =
     let h = head x in
     let t = x .table in
@@ -131,7 +145,7 @@ walked-of x =
     (and-of (head-of h x)
     (and-of (and-of (and-of (zeros-of t 9 7)
     (and-of (and-of (keys-of h t) (words-of h t)) (zeros-of t (overAt h (overCount t)) (3 * (h .v - overCount t)))))
-    (and-of (and-of (places-of h t) (owners-of h t)) (rising-of h t))) (total-of h t)))
+    (and-of (places-of h t) (owners-of h t))) (rise-of h t)))
     (λ q. record {
       sizes = q .0 .sizes;
       room = q .0 .room;
@@ -141,13 +155,13 @@ walked-of x =
       keys = q .1 .0 .0 .1 .0 .0;
       words = q .1 .0 .0 .1 .0 .1;
       spare = q .1 .0 .0 .1 .1;
-      places = q .1 .0 .1 .0 .0;
-      rows-used = q .1 .0 .1 .0 .1 .0;
-      pages-used = q .1 .0 .1 .0 .1 .1;
-      rising = λ r e l. q .1 .0 .1 .1 e l r;
-      total = q .1 .1;
+      places = q .1 .0 .1 .0;
+      rows-used = q .1 .0 .1 .1 .0;
+      pages-used = q .1 .0 .1 .1 .1;
+      rising = λ r. q .1 .1 r .0;
+      total = λ r. q .1 .1 r .1;
     })
     (λ w. (
       record { sizes = w .sizes; room = w .room; mode = w .mode; over-fits = w .over-fits },
-      (((w .unused, ((w .keys, w .words), w .spare)), ((w .places, (w .rows-used, w .pages-used)), λ e l r. w .rising r e l)), w .total),
+      (((w .unused, ((w .keys, w .words), w .spare)), (w .places, (w .rows-used, w .pages-used))), λ r. (w .rising r, w .total r)),
     ))

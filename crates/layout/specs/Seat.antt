@@ -1,7 +1,7 @@
 -- A chunk's word with the members of the chunks before it, defined on any memory.
 use Prim.Native.Nat.{ℕ, _+_, _*_}
 use mathlib.Core.List.{List}
-use mathlib.Core.Bool.{Bool, cond}
+use mathlib.Core.Bool.{cond}
 use lib.ListN.{length, getD}
 use lib.Dec.{ltb, eqb}
 use Rattle.layout.specs.Sizes.{directAt, overStart, headerAt, overCount, totalAt}

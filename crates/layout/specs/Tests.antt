@@ -79,10 +79,10 @@ unfoldable pub prefixAfter : Sizes → List ℕ → ℕ → ℕ
 prefixAfter h t e = cond (ltb (e + 1) (entries h t)) (prefixAt h t (e + 1)) (totalAt t)
 
 unfoldable pub prefixRises : Sizes → List ℕ → ℕ → Bool
-prefixRises h t e = not (rankedAt t) || leb (prefixAt h t e) (prefixAfter h t e)
+prefixRises h t e = leb (prefixAt h t e) (prefixAfter h t e)
 
-unfoldable pub totalFits : List ℕ → Bool
-totalFits t = not (rankedAt t) || ltb (totalAt t) (2 ^ 63)
+unfoldable pub ranksRise : Sizes → List ℕ → Bool
+ranksRise h t = not (rankedAt t) || (allTo (prefixRises h t) (entries h t) && ltb (totalAt t) (2 ^ 63))
 
 -- what the walk looks at: all of the table
 pub record Walked (x : Mem) (h : Sizes) : Type 0 where
@@ -103,17 +103,17 @@ pub record Walked (x : Mem) (h : Sizes) : Type 0 where
 unfoldable pub headIs : Sizes → Mem → Bool
 headIs h x = inRange h && roomIn h x && leb (modeAt (x .table)) 1 && leb (overCount (x .table)) (h .v)
 
--- overflow entries (6, 7, 8); all entries (9, 13, prefixes)
+-- overflow entries (6, 7, 8); all entries (9, 13)
 unfoldable pub overIs : Sizes → List ℕ → Bool
 overIs h t =
     allTo (keyIs h t) (overCount t) && allTo (wordIs h t) (overCount t)
     && zeros t (overAt h (overCount t)) (3 * (h .v - overCount t))
 
 unfoldable pub entriesAre : Sizes → List ℕ → Bool
-entriesAre h t = allTo (placeIs h t) (entries h t) && ownersAre h t && allTo (prefixRises h t) (entries h t)
+entriesAre h t = allTo (placeIs h t) (entries h t) && ownersAre h t
 
 unfoldable pub tableIs : Sizes → List ℕ → Bool
-tableIs h t = zeros t 9 7 && overIs h t && entriesAre h t && totalFits t
+tableIs h t = zeros t 9 7 && overIs h t && entriesAre h t && ranksRise h t
 
 unfoldable pub walked : Mem → Bool
 walked x = headIs (head x) x && tableIs (head x) (x .table)

@@ -6,6 +6,7 @@ ghost use Rattle.document.specs.Sizes.{InRange};
 ghost use Rattle.layout.specs.Sizes.{headerAt, overAt};
 ghost use Rattle.layout.specs.Places.{rowOwner, pageOwner};
 ghost use Rattle.layout.specs.Entries.{chunkAt, wordAt, prefixAt, placeAt};
+use crate::head;
 use crate::place;
 use crate::place::Place;
 use document::sizes::Sizes;
@@ -41,12 +42,12 @@ pub fn over_word(table: &[u64], h: Sizes, j: u64) -> u64
     element::at(table, 16 + 2 * h.d + 3 * j + 1)
 }
 
-// The word of entry e by header word 2 alone.
+// The word of entry e by D alone.
 pub fn word_by(table: &[u64], e: u64) -> u64
-    requires { ⌜ (getD (now table) 2 0 ≤ 262144) × (e ≤ 327680) ⌝ }
+    requires { ⌜ (headerAt (now table) .d ≤ 262144) × (e ≤ 327680) ⌝ }
     ensures { λ w. ⌜ w ≡ wordAt (headerAt (now (table .entry))) (now (table .entry)) e ⌝ }
 {
-    let d = element::at(table, 2);
+    let d = head::direct(table);
     if e < d {
         return element::at(table, 16 + 2 * e);
     }

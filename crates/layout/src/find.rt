@@ -1,10 +1,11 @@
 // The short test: what a call on one chunk looks at, on any memory.
 ghost use mathlib.Core.Path.{_≡_};
 ghost use Prim.Native.Nat.{_+_, _*_, _^_, _≤_, _<_};
-ghost use lib.ListN.{getD};
-ghost use Rattle.layout.specs.Sizes.{headerAt, overCount};
+ghost use lib.ListN.{length};
+ghost use Rattle.layout.specs.Sizes.{overStart, headerAt, overCount};
 ghost use Rattle.layout.specs.Short.{overPlace, overWord, entriesIn, overflowWord, wordIn, spotAt, spotOf};
 ghost use Rattle.layout.specs.declared.place.Place.the-variants.{Sparse, Dense};
+use crate::head;
 use crate::place;
 use crate::place::Place;
 use document::sizes::Sizes;
@@ -47,9 +48,9 @@ pub fn over_place(table: &[u64], a: u64, n: u64, c: u64) -> u64
 pub fn over_below(table: &[u64], h: Sizes, c: u64) -> u64
     requires { ⌜ (h .d ≤ 262144) × (overCount (now table) ≤ 65536) ⌝ }
     ensures { λ k. ⌜ (let t = now (table .entry) in
-        (k ≡ overPlace t (16 + 2 * h .d) (overCount t) c) × (k ≤ overCount t)) ⌝ }
+        (k ≡ overPlace t (overStart (h .d)) (overCount t) c) × (k ≤ overCount t)) ⌝ }
 {
-    over_place(table, 16 + 2 * h.d, element::at(table, 7), c)
+    over_place(table, 16 + 2 * h.d, head::over_count(table), c)
 }
 
 // The word of overflow entry k where its id is c, else 0.
@@ -70,37 +71,28 @@ pub fn over_word(table: &[u64], a: u64, n: u64, c: u64, k: u64) -> u64
 pub fn entries_in(table: &[u64], d: u64) -> bool
     ensures { λ b. ⌜ b ≡ entriesIn (now (table .entry)) d ⌝ }
 {
-    let n = element::at(table, 7);
+    let n = head::over_count(table);
     if !((d <= 262144) & (n <= 65536)) {
         return false;
     }
-    (16 + 2 * d + 3 * n <= table.len() as u64) & (n <= element::at(table, 3))
+    (16 + 2 * d + 3 * n <= table.len() as u64) & (n <= head::overflow(table))
 }
 
 // The word of a chunk past the d direct entries.
 pub fn overflow_word(table: &[u64], d: u64, c: u64) -> Word
     ensures { λ w. ⌜ w ≡ overflowWord (now (table .entry)) d c ⌝ }
 {
-    let n = element::at(table, 7);
-    if 262144 < d {
+    if !entries_in(table, d) {
         return Word::Bad;
     }
-    if 65536 < n {
-        return Word::Bad;
-    }
+    let n = head::over_count(table);
     let a = 16 + 2 * d;
-    if (table.len() as u64) < a + 3 * n {
-        return Word::Bad;
-    }
-    if table[3] < n {
-        return Word::Bad;
-    }
     Word::Is(over_word(table, a, n, c, over_place(table, a, n, c)))
 }
 
 // The word of a chunk below D: one look at its entry. Small, so that a call compiles it in and leaves the search to `word_of`.
 pub fn direct_word(table: &[u64], c: u64) -> Word
-    requires { ⌜ (c < 2 ^ 62) × (c < getD (now table) 2 0) ⌝ }
+    requires { ⌜ (c < 2 ^ 62) × (c < headerAt (now table) .d) ⌝ }
     ensures { λ w. ⌜ w ≡ wordIn (now (table .entry)) c ⌝ }
 {
     let i = (16 + 2 * c) as usize;
@@ -115,7 +107,7 @@ pub fn word_of(table: &[u64], c: u64) -> Word
     requires { ⌜ c < 2 ^ 62 ⌝ }
     ensures { λ w. ⌜ w ≡ wordIn (now (table .entry)) c ⌝ }
 {
-    let d = element::at(table, 2);
+    let d = head::direct(table);
     if d <= c {
         return overflow_word(table, d, c);
     }
@@ -127,8 +119,8 @@ fn row_spot(table: &[u64], rows: u64, r: u64, l: u64) -> Spot
     requires { ⌜ r ≤ 262144 ⌝ }
     ensures { λ q. ⌜ q ≡ spotAt (headerAt (now (table .entry))) 0 rows (Sparse r l) ⌝ }
 {
-    let m = element::at(table, 1);
-    if !((r < element::at(table, 4)) & (m <= 1024) & (l <= m)) {
+    let m = head::row_size(table);
+    if !((r < head::rows(table)) & (m <= 1024) & (l <= m)) {
         return Spot::Bad;
     }
     let a = power::times(r, m);
@@ -140,24 +132,24 @@ fn row_spot(table: &[u64], rows: u64, r: u64, l: u64) -> Spot
 
 // The part of page p: one of the table's P, and of the pages that fit into so many words.
 fn page_spot(table: &[u64], pages: u64, p: u64) -> Spot
-    requires { ⌜ (9 ≤ getD (now table) 0 0) × (getD (now table) 0 0 ≤ 25) ⌝ }
+    requires { ⌜ (9 ≤ headerAt (now table) .s) × (headerAt (now table) .s ≤ 25) ⌝ }
     ensures { λ q. ⌜ q ≡ spotAt (headerAt (now (table .entry))) pages 0 (Dense p) ⌝ }
 {
-    let k = element::at(table, 0) - 6;
-    if !((p < element::at(table, 5)) & (p < power::high(pages, k))) {
+    let k = head::shift(table) - 6;
+    if !((p < head::pages(table)) & (p < power::high(pages, k))) {
         return Spot::Bad;
     }
     Spot::Page(power::shifted(p, k) as usize, power::pow2(k) as usize)
 }
 
-// The part of a pool that word w names, where the pools are so long.
-pub fn spot_of(table: &[u64], pages: u64, rows: u64, w: u64) -> Spot
-    requires { ⌜ (9 ≤ getD (now table) 0 0) × (getD (now table) 0 0 ≤ 25) ⌝ }
-    ensures { λ q. ⌜ q ≡ spotOf (headerAt (now (table .entry))) pages rows w ⌝ }
+// The part of a pool that word w names.
+pub fn spot_of(pages: &[u64], rows: &[u32], table: &[u64], w: u64) -> Spot
+    requires { ⌜ (9 ≤ headerAt (now table) .s) × (headerAt (now table) .s ≤ 25) ⌝ }
+    ensures { λ q. ⌜ q ≡ spotOf (headerAt (now (table .entry))) (length (now (pages .entry))) (length (now (rows .entry))) w ⌝ }
 {
     match place::decode(w) {
         Place::Absent => Spot::Nowhere,
-        Place::Sparse(r, l) => row_spot(table, rows, r, l),
-        Place::Dense(p) => page_spot(table, pages, p),
+        Place::Sparse(r, l) => row_spot(table, rows.len() as u64, r, l),
+        Place::Dense(p) => page_spot(table, pages.len() as u64, p),
     }
 }

@@ -1,24 +1,95 @@
-// The header's six sizes, the test of them, and where the parts of the pools start.
+// The header's words, the test of its sizes, and where the parts of the pools start.
 ghost use mathlib.Core.Path.{_≡_};
 ghost use Prim.Native.Nat.{_*_, _-_, _≤_};
 ghost use Rattle.document.specs.Sizes.{InRange};
-ghost use Rattle.layout.specs.Sizes.{headerAt, wide, blocksOf, overAt, rowOwnersAt, pageOwnersAt};
+ghost use Rattle.layout.specs.Sizes.{headerAt, modeAt, overCount, totalAt, wide, blocksOf, overAt, rowOwnersAt, pageOwnersAt};
 ghost use Rattle.layout.specs.Tests.{inRange, roomy};
 use document::sizes::Sizes;
 use numbers::element;
 use numbers::power;
+
+// The modes.
+pub const OPEN: u64 = 0;
+
+pub const RANKED: u64 = 1;
+
+// ---- the words
+
+// s: a chunk has 2^s ids.
+pub fn shift(table: &[u64]) -> u64
+    ensures { λ s. ⌜ s ≡ headerAt (now (table .entry)) .s ⌝ }
+{
+    element::at(table, 0)
+}
+
+// m, the members that a row has room for.
+pub fn row_size(table: &[u64]) -> u64
+    ensures { λ m. ⌜ m ≡ headerAt (now (table .entry)) .m ⌝ }
+{
+    element::at(table, 1)
+}
+
+// D, the direct entries.
+pub fn direct(table: &[u64]) -> u64
+    ensures { λ d. ⌜ d ≡ headerAt (now (table .entry)) .d ⌝ }
+{
+    element::at(table, 2)
+}
+
+// V, the overflow entries.
+pub fn overflow(table: &[u64]) -> u64
+    ensures { λ v. ⌜ v ≡ headerAt (now (table .entry)) .v ⌝ }
+{
+    element::at(table, 3)
+}
+
+// R, the rows.
+pub fn rows(table: &[u64]) -> u64
+    ensures { λ r. ⌜ r ≡ headerAt (now (table .entry)) .r ⌝ }
+{
+    element::at(table, 4)
+}
+
+// P, the pages.
+pub fn pages(table: &[u64]) -> u64
+    ensures { λ p. ⌜ p ≡ headerAt (now (table .entry)) .p ⌝ }
+{
+    element::at(table, 5)
+}
+
+pub fn mode(table: &[u64]) -> u64
+    ensures { λ n. ⌜ n ≡ modeAt (now (table .entry)) ⌝ }
+{
+    element::at(table, 6)
+}
+
+// The overflow entries in use.
+pub fn over_count(table: &[u64]) -> u64
+    ensures { λ n. ⌜ n ≡ overCount (now (table .entry)) ⌝ }
+{
+    element::at(table, 7)
+}
+
+// The members, where the set is ranked.
+pub fn total(table: &[u64]) -> u64
+    ensures { λ n. ⌜ n ≡ totalAt (now (table .entry)) ⌝ }
+{
+    element::at(table, 8)
+}
+
+// ---- the sizes
 
 // The sizes that a table's header says.
 pub fn read(table: &[u64]) -> Sizes
     ensures { λ h. ⌜ h ≡ headerAt (now (table .entry)) ⌝ }
 {
     Sizes {
-        s: element::at(table, 0),
-        m: element::at(table, 1),
-        d: element::at(table, 2),
-        v: element::at(table, 3),
-        r: element::at(table, 4),
-        p: element::at(table, 5),
+        s: shift(table),
+        m: row_size(table),
+        d: direct(table),
+        v: overflow(table),
+        r: rows(table),
+        p: pages(table),
     }
 }
 
@@ -35,6 +106,8 @@ pub fn in_range(h: Sizes) -> bool
         & (h.r <= 65536)
         & (h.p <= 65536)
 }
+
+// ---- where things start
 
 // Where overflow entry j starts.
 pub fn over_at(h: Sizes, j: u64) -> u64

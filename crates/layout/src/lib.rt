@@ -1,11 +1,6 @@
-// What the four lent slices mean: header, directory, slots, set-up. Only here are places of the table computed.
+// What the four lent slices mean: header, directory, slots. Here are their definitions, and the reads of the table.
 pub mod entry;
 pub mod find;
 pub mod head;
-pub mod owners;
 pub mod place;
 pub mod seat;
-pub mod setup;
-pub mod walk;
-pub mod write;
-pub mod zeros;

@@ -4,7 +4,7 @@ ghost use Prim.Native.Nat.{_+_, _*_, _^_, _≤_, _<_};
 ghost use lib.ListN.{length};
 ghost use Rattle.layout.specs.Seat.{overSeat, overflowSeat, seatIn};
 use crate::find;
-use numbers::element;
+use crate::head;
 
 // A chunk's word and the members of the chunks before it, or a table that is too short to say.
 pub enum Seat {
@@ -18,7 +18,7 @@ pub fn over_seat(table: &[u64], a: u64, n: u64, c: u64, k: u64) -> Seat
     ensures { λ q. ⌜ q ≡ overSeat (now (table .entry)) a n c k ⌝ }
 {
     if n <= k {
-        return Seat::At(0, element::at(table, 8));
+        return Seat::At(0, head::total(table));
     }
     let i = (a + 3 * k + 2) as usize;
     Seat::At(find::over_word(table, a, n, c, k), table[i])
@@ -28,20 +28,11 @@ pub fn over_seat(table: &[u64], a: u64, n: u64, c: u64, k: u64) -> Seat
 pub fn overflow_seat(table: &[u64], d: u64, c: u64) -> Seat
     ensures { λ q. ⌜ q ≡ overflowSeat (now (table .entry)) d c ⌝ }
 {
-    let n = element::at(table, 7);
-    if 262144 < d {
+    if !find::entries_in(table, d) {
         return Seat::Bad;
     }
-    if 65536 < n {
-        return Seat::Bad;
-    }
+    let n = head::over_count(table);
     let a = 16 + 2 * d;
-    if (table.len() as u64) < a + 3 * n {
-        return Seat::Bad;
-    }
-    if table[3] < n {
-        return Seat::Bad;
-    }
     over_seat(table, a, n, c, find::over_place(table, a, n, c))
 }
 
@@ -50,7 +41,7 @@ pub fn seat_of(table: &[u64], c: u64) -> Seat
     requires { ⌜ c < 2 ^ 62 ⌝ }
     ensures { λ q. ⌜ q ≡ seatIn (now (table .entry)) c ⌝ }
 {
-    let d = element::at(table, 2);
+    let d = head::direct(table);
     if d <= c {
         return overflow_seat(table, d, c);
     }

@@ -1,11 +1,10 @@
 -- Memory as set-up leaves it follows the layout and stands for the empty set, open. Assumes nothing.
 use mathlib.Core.Path.{_≡_, refl, sym, ap, subst, _∙_}
-use mathlib.Core.List.{List, _∷_, _++_}
+use mathlib.Core.List.{List, _∷_}
 use mathlib.Core.Bool.{false, cond, not}
 use Prim.Native.Nat.{ℕ, zero, suc, _+_, _-_, _*_, _/_, _%_, _≤_, _<_}
 use native.Mathlib.Omega.{arith}
-use lib.ListN.{length, getD, drop, replicate, length-append, length-drop, length-replicate, List·getD-append}
-use lib.Seq.{getD-append-add, getD-drop}
+use lib.ListN.{length, getD, drop, replicate, length-replicate, List·getD-append}
 use lib.Dec.{eqb}
 use Rattle.sums.proofs.Counts.{count-none}
 use Rattle.layout.specs.Mem.{Mem}
@@ -17,10 +16,11 @@ use Rattle.document.specs.State.{absent, isPresent}
 use Rattle.layout.specs.Meaning.{offsets, holds, kindOf, kinds, ranked, stateOf}
 use Rattle.document.specs.Answers.{chunksIn}
 use Rattle.layout.specs.Follows.{AllZero, Owned, RowListed, kept, Laid, Follows}
-use Rattle.layout.specs.SetUp.{zeroed, freshTable, fresh}
+use Rattle.layout.specs.SetUp.{freshTable, fresh}
 use Rattle.document.specs.declared.sizes.Sizes.{Sizes}
 use Rattle.layout.specs.declared.place.Place.{Place}
 use Rattle.layout.specs.declared.place.Place.the-variants.{Absent}
+use Rattle.layout.proofs.Zeroed.{front-past, front-length, zeros-at, zeroed-at, zeroed-length}
 use Rattle.layout_laws.proofs.Entries.{word-direct, prefix-direct, place-of-any}
 use Rattle.layout_laws.proofs.Sizes.{slot-inside}
 
@@ -92,36 +92,6 @@ module _ (y : Mem) (h : Sizes) (b : Blank y h) where
   pub blank-absent : (c : ℕ) → placeOf h (y .table) c ≡ Absent
   blank-absent = place-of-any h (y .table) (record { sizes = b .sizes; keys = blank-laid .keys }) (λ (c : ℕ) (p : Place). p ≡ Absent) (λ c. refl) blank-place
 
--- ---- zeros, and what stands after them
-
-pub zeros-at : (n i : ℕ) → getD {A = ℕ} (replicate n 0) i 0 ≡ 0
-zeros-at zero i = refl
-zeros-at (suc n) zero = refl
-zeros-at (suc n) (suc i) = zeros-at n i
-
-pub zeroed-at : (n : ℕ) (xs : List ℕ) (i : ℕ) → i < n → getD (zeroed n xs) i 0 ≡ 0
-unfolding zeroed
-zeroed-at n xs i l = List·getD-append (replicate n 0) (drop n xs) 0 i (let e = length-replicate {A = ℕ} n 0 in omega arith) ∙ zeros-at n i
-
--- elements past the front are as they were
-after-front : (front xs : List ℕ) (n i : ℕ) → length front ≡ n → n ≤ i → getD (front ++ drop n xs) i 0 ≡ getD xs i 0
-after-front front xs n i e l =
-    let k = i - n in
-    let f : i ≡ length front + k = omega arith in
-    let g : n + k ≡ i = omega arith in
-    ap (λ (j : ℕ). getD (front ++ drop n xs) j 0) f ∙ getD-append-add front (drop n xs) k 0 ∙ getD-drop n xs k 0 ∙ ap (λ (j : ℕ). getD xs j 0) g
-
-front-length : (front xs : List ℕ) (n : ℕ) → length front ≡ n → n ≤ length xs → length (front ++ drop n xs) ≡ length xs
-front-length front xs n e l = let a = length-append front (drop n xs) in let d = length-drop n xs in omega arith
-
-pub zeroed-past : (n : ℕ) (xs : List ℕ) (i : ℕ) → n ≤ i → getD (zeroed n xs) i 0 ≡ getD xs i 0
-unfolding zeroed
-zeroed-past n xs i l = after-front (replicate n 0) xs n i (length-replicate n 0) l
-
-pub zeroed-length : (n : ℕ) (xs : List ℕ) → n ≤ length xs → length (zeroed n xs) ≡ length xs
-unfolding zeroed
-zeroed-length n xs l = front-length (replicate n 0) xs n (length-replicate n 0) l
-
 -- ---- the table
 
 abbrev sixed : Sizes → ℕ → List ℕ
@@ -145,7 +115,7 @@ module _ (h : Sizes) where
 
     pub fresh-table-past : (i : ℕ) → tableSize h ≤ i → getD (freshTable h t) i 0 ≡ getD t i 0
     unfolding freshTable
-    fresh-table-past i l = after-front (sixed h (tableSize h - 6)) t (tableSize h) i sixed-length l
+    fresh-table-past i l = front-past (sixed h (tableSize h - 6)) t (tableSize h) i sixed-length l
 
     pub fresh-table-length : tableSize h ≤ length t → length (freshTable h t) ≡ length t
     unfolding freshTable
@@ -199,30 +169,3 @@ module _ (h : Sizes) (x : Mem) (sizes : InRange h) (room : RoomIn h x) where
 
   pub fresh-open : ranked (fresh h x) ≡ false
   fresh-open = ap (λ (m : ℕ). eqb m 1) (blank-mode (fresh h x) h fresh-blank)
-
--- ---- what set-up leaves alone
-
--- the elements of ys from n on are those of xs, and there are as many
-pub record Beyond (n : ℕ) (xs ys : List ℕ) : Type 0 where
-  pub long : length ys ≡ length xs
-  pub same : (i : ℕ) → n ≤ i → getD ys i 0 ≡ getD xs i 0
-
-zeroed-beyond : (n : ℕ) (xs : List ℕ) → n ≤ length xs → Beyond n xs (zeroed n xs)
-zeroed-beyond n xs l = record { long = zeroed-length n xs l; same = zeroed-past n xs }
-
-module _ (h : Sizes) (x : Mem) (room : RoomIn h x) where
-  pub fresh-pages-beyond : Beyond (h .p * wide h) (x .pages) (fresh h x .pages)
-  unfolding fresh
-  fresh-pages-beyond = zeroed-beyond (h .p * wide h) (x .pages) (room .in-pages)
-
-  pub fresh-rows-beyond : Beyond (h .r * h .m) (x .rows) (fresh h x .rows)
-  unfolding fresh
-  fresh-rows-beyond = zeroed-beyond (h .r * h .m) (x .rows) (room .in-rows)
-
-  pub fresh-blocks-beyond : Beyond (h .p * blocksOf h) (x .blocks) (fresh h x .blocks)
-  unfolding fresh
-  fresh-blocks-beyond = zeroed-beyond (h .p * blocksOf h) (x .blocks) (room .in-blocks)
-
-  pub fresh-table-beyond : Beyond (tableSize h) (x .table) (fresh h x .table)
-  unfolding fresh
-  fresh-table-beyond = record { long = fresh-table-length h (x .table) (room .in-table); same = fresh-table-past h (x .table) }

@@ -22,6 +22,7 @@ use Rattle.document.specs.declared.answer.Outcome.the-variants.{Done, Refused}
 use Rattle.layout.specs.declared.find.Word.the-variants as word
 use Rattle.layout.proofs.Finds.{EntriesIn, entries-are-in}
 use Rattle.layout.proofs.Tests.{room-of}
+use Rattle.layout.proofs.Zeroed.{zeroed-past, zeroed-length}
 use Rattle.layout.proofs.Parts.{length-put, put-off}
 use Rattle.layout.proofs.Added.{added-length, added-high}
 use Rattle.layout_laws.proofs.Sizes.{slot-inside}
@@ -30,7 +31,7 @@ use Rattle.layout_laws.proofs.Entries as ids
 use Rattle.layout_laws.proofs.Entries.{chunk-direct, chunk-over, Which, which, Ordered}
 use Rattle.layout_laws.proofs.Halving.{lower-between, lower-first}
 use Rattle.layout_laws.proofs.Short.{over-rising}
-use Rattle.layout_laws.proofs.Fresh.{zeroed-past, zeroed-length, fresh-table-past, fresh-table-length}
+use Rattle.layout_laws.proofs.Fresh.{fresh-table-past, fresh-table-length}
 
 -- ---- a write below n leaves what lies from n on
 

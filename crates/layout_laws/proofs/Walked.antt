@@ -6,7 +6,7 @@ use Prim.Native.Nat.{ℕ, zero, suc, _+_, _-_, _^_, _≤_, _<_}
 use native.Mathlib.Omega.{arith}
 use lib.Dec.{ltb}
 use lib.Pow.{pow-mono}
-use borrow.Author.Tests.{ltb-true, ltb-false, lt-ltb, le-ltb}
+use borrow.Author.Tests.{ltb-true, ltb-false}
 use Rattle.sums.specs.Sums.{sumTo}
 use Rattle.sums.proofs.Sums.{sum-next, sum-bound}
 use Rattle.dense.proofs.Counts.{bits-le}
@@ -21,7 +21,7 @@ use Rattle.layout.specs.Follows.{Owned, sizeOf, membersAt, kept, Laid, Follows}
 use Rattle.layout.specs.Tests.{prefixAfter, Walked, walked}
 use Rattle.layout.specs.declared.place.Place.{Place}
 use Rattle.layout.specs.declared.place.Place.the-variants.{Absent, Sparse, Dense}
-use Rattle.layout.proofs.Tests.{walked-of}
+use Rattle.layout.proofs.Tests.{after-entry, after-all, walked-of}
 use Rattle.layout_laws.specs.Chunks.{entryFrom, firstRank}
 
 -- ---- members are few
@@ -54,17 +54,6 @@ module _ {x : Mem} {h : Sizes} (w : Walked x h) where
 
   pub sum-small : (e : ℕ) → e ≤ entries h (x .table) → sumTo (membersAt h x) e < 17592186044416
   sum-small = sum-few x h (w .sizes) (w .over-fits) (w .places)
-
--- ---- what follows an entry's prefix
-
-module _ (h : Sizes) (t : List ℕ) (e : ℕ) where
-  pub after-entry : e + 1 < entries h t → prefixAfter h t e ≡ prefixAt h t (e + 1)
-  unfolding prefixAfter
-  after-entry l = ap (λ (b : Bool). cond b (prefixAt h t (e + 1)) (totalAt t)) (lt-ltb (e + 1) (entries h t) l)
-
-  pub after-all : entries h t ≤ e + 1 → prefixAfter h t e ≡ totalAt t
-  unfolding prefixAfter
-  after-all l = ap (λ (b : Bool). cond b (prefixAt h t (e + 1)) (totalAt t)) (le-ltb (e + 1) (entries h t) l)
 
 -- ---- the rule, and the walk
 

@@ -15,7 +15,7 @@ use layout::entry;
 use layout::find;
 use layout::head;
 use layout::place;
-use layout::walk;
+use layout_walk::walk;
 use numbers::Natural;
 use numbers::element;
 use numbers::id as ids;

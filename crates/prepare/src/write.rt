@@ -17,10 +17,10 @@ use document::sizes::Sizes;
 use layout::find;
 use layout::find::Word;
 use layout::head;
-use layout::owners;
 use layout::place;
 use layout::place::Place;
-use layout::write;
+use layout_walk::owners;
+use layout_writes::write;
 use numbers::power;
 use steps::turn;
 

@@ -23,7 +23,7 @@ use Rattle.layout.specs.Places.{rowOwner, pageOwner}
 use Rattle.layout.specs.Entries.{chunkAt, wordAt, prefixAt, beside, wordOf}
 use Rattle.layout.specs.Meaning.{kinds, stateOf}
 use Rattle.layout.specs.Follows.{membersAt}
-use Rattle.layout.specs.Tests.{inRange, roomy, zeroAt, zeros, keyIs, wordIs, overIs, placeIs, ownersAre, prefixAfter, prefixRises, totalFits, entriesAre, headIs, tableIs, walked}
+use Rattle.layout.specs.Tests.{inRange, roomy, zeroAt, zeros, keyIs, wordIs, overIs, placeIs, ownersAre, prefixAfter, prefixRises, ranksRise, entriesAre, headIs, tableIs, walked}
 use Rattle.layout.specs.SetUp.{zeroed, freshTable, fresh, setUpBy}
 use Rattle.layout.specs.Short.{lowerKey, wordIn, spotOf}
 use Rattle.layout.proofs.Tests.{range-of, room-of}
@@ -146,7 +146,7 @@ all-say [] u = tt
 all-say (c ∷ cs) u = let b = both (proper c) (allProper cs) u in (computed-says c (b .0), all-say cs (b .1))
 
 table-computed : allComputed memoryRows ≡ memoryRows
-unfolding sumTo count allTo bit isSet bitsTo withBit withRow lowerIn lowerOf searchIn spotIn anyIn insertedAt inRange roomy zeroAt zeros keyIs wordIs overIs placeIs ownersAre prefixAfter prefixRises totalFits entriesAre headIs tableIs walked kinds wordOf beside chunkAt wordAt prefixAt membersAt lowerKey wordIn spotOf zeroed freshTable fresh setUpBy putPart added putWord rowed paged firstFree insertPlan insertBy preparedPlan preparedBy densedTo overNeeded pagesNeeded prepareBy goodAt sizeBy usedAt partsOk lenBy hasAnyBy prefixed blocked blockedTo toRanked rankUpBy seatIn rankBy rankIfBy entryFrom anyEntry anyRun anyFrom anyBy
+unfolding sumTo count allTo bit isSet bitsTo withBit withRow lowerIn lowerOf searchIn spotIn anyIn insertedAt inRange roomy zeroAt zeros keyIs wordIs overIs placeIs ownersAre prefixAfter prefixRises ranksRise entriesAre headIs tableIs walked kinds wordOf beside chunkAt wordAt prefixAt membersAt lowerKey wordIn spotOf zeroed freshTable fresh setUpBy putPart added putWord rowed paged firstFree insertPlan insertBy preparedPlan preparedBy densedTo overNeeded pagesNeeded prepareBy goodAt sizeBy usedAt partsOk lenBy hasAnyBy prefixed blocked blockedTo toRanked rankUpBy seatIn rankBy rankIfBy entryFrom anyEntry anyRun anyFrom anyBy
 table-computed = refl
 
 table-proper : allProper memoryRows ≡ true

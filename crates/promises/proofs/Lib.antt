@@ -4,6 +4,7 @@ pub mod Refusals
 pub mod Unique
 pub mod Returns
 pub mod Cutting
+pub mod Listings
 pub mod Cases
 pub mod Ensures
 pub mod Contracts

@@ -1,20 +1,21 @@
 -- What a customer reads: demands 1, 2 and 3 of the contracts themselves, for every history of calls on memory that set-up made. Assumes nothing.
 use mathlib.Core.Path.{_≡_, refl, sym, ap, subst, _∙_}
 use mathlib.Core.Bool.{Bool, true, false, cond}
-use Prim.Native.Nat.{ℕ, _-_, _≤_, _<_}
+use Prim.Native.Nat.{ℕ, _+_, _-_, _/_, _≤_, _<_}
 use mathlib.Core.List.{List}
 use lib.IntN.{ℤ, pos}
-use lib.ListN.{getD}
+use lib.ListN.{length, getD}
 use Rattle.sums.specs.Ids.{count, total, rank}
 use Rattle.sums.proofs.Ranks.{nth-member, nth-one}
 use Rattle.document.specs.State.{State, empty}
-use Rattle.document.specs.Calls.{Call, Fitting, Ask, Said, whether, that, many, Refuses, rank-up, leave, rank-of, check}
+use Rattle.document.specs.Calls.{Call, Fitting, Ask, Said, whether, that, many, Refuses, rank-up, leave, iterate, rank-of, listed, check}
 use Rattle.document.specs.Answers.{answer, rankAnswer, reply}
 use Rattle.document.specs.declared.sizes.Sizes.{Sizes}
 use Rattle.document.specs.declared.answer.Outcome.{Outcome}
 use Rattle.document.specs.declared.answer.Outcome.the-variants.{Done, Refused}
 use Rattle.document.specs.declared.answer.Truth.the-variants.{Is}
 use Rattle.document.specs.declared.answer.Amount.the-variants as amount
+use Rattle.document.specs.declared.answer.Listing.{Listing}
 use Rattle.document.specs.declared.plan.Plan.{Plan}
 use Rattle.document.specs.declared.plan.Planning.{Planning}
 use Rattle.document.specs.declared.plan.Planning.the-variants as planning
@@ -41,6 +42,7 @@ use Rattle.cuts.specs.Promise.{Plans}
 use Rattle.cuts.proofs.Plans.{plan-refused, plans-by}
 use Rattle.promises.specs.Histories.{Step, Ran, last, described, Kept}
 use Rattle.promises.specs.Cuts.{Cuts}
+use Rattle.promises.specs.Listings.{Asked, Asking, AllListed}
 use Rattle.promises.specs.Cases.{AllSay, table}
 use Rattle.promises.proofs.SetUps.{fit, stays, not-three}
 use Rattle.promises.proofs.Kept.{all-kept}
@@ -48,6 +50,7 @@ use Rattle.promises.proofs.Refusals.{model-stays}
 use Rattle.promises.proofs.Unique.{asked, asked-once, asked-some}
 use Rattle.promises.proofs.Returns.{up-and-back}
 use Rattle.promises.proofs.Cutting.{cut-set, spare-bounds}
+use Rattle.promises.proofs.Listings.{lists-all, ends-soon, some-listed}
 use Rattle.promises.proofs.Cases.{table-says}
 
 -- ---- demand 1: memory before fixes answer and memory after, whatever memory is
@@ -144,6 +147,17 @@ module _ (h : Sizes) (x y : Mem) (made : SetsUp h x Done y) (ss : List Step) (ra
 
   pub check-says-yes : (a : Said) → Answers (last y ss) check a → a ≡ whether (Is true)
   check-says-yes a d = reads check a d
+
+  -- iteration: records from a start, each from where the last one said, up to the first with the mark, list exactly the members that are not below it, each once, rising
+  pub all-listed : (start : ℤ) (rs : List Listing) → Asked (last y ss) start rs → AllListed (now .members) start rs
+  all-listed start rs d = lists-all (last y ss) (now .members) (λ s r a. reads (iterate s) (listed r) a) start rs d
+
+  -- the mark is reached, after at most total / 64 + 1 calls
+  pub mark-comes : (start : ℤ) (rs : List Listing) → Asking (last y ss) start rs → length rs ≤ total (now .members) / 64 + 1
+  mark-comes start rs d = ends-soon (last y ss) (now .members) (λ s r a. reads (iterate s) (listed r) a) start rs d
+
+  pub mark-there : (start : ℤ) → (rs : List Listing) × Asked (last y ss) start rs
+  mark-there start = some-listed (last y ss) (now .members) (λ s r a. reads (iterate s) (listed r) a) start
 
   -- ranking an open set and leaving the ranked form reaches the same memory
   pub ranked-and-left : now .mode ≡ false → (a b : Said) (u v : Mem) → Does (last y ss) rank-up a u → Does u leave b v → v ≡ last y ss

@@ -1,3 +1,4 @@
 pub mod Histories
 pub mod Cuts
+pub mod Listings
 pub mod Cases

@@ -12,7 +12,7 @@ use crate::prefixes;
 use document::answer::Outcome;
 use document::sizes::Sizes;
 use layout::head;
-use layout::setup;
+use layout_writes::setup;
 
 // Counts every block, then every entry.
 fn count_all(h: Sizes, pages: &[u64], rows: &[u32], blocks: &mut [u32], table: &mut [u64])

@@ -2,7 +2,7 @@
 ghost use mathlib.Core.Path.{_≡_};
 ghost use Rattle.layout.specs.Mem.{memOf};
 ghost use Rattle.ranked.specs.Modes.{formIn, formOf};
-use layout::walk;
+use layout_walk::walk;
 use numbers::element;
 
 pub enum Form {

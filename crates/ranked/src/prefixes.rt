@@ -12,7 +12,7 @@ use crate::blocks;
 use document::sizes::Sizes;
 use layout::entry;
 use layout::place::Place;
-use layout::write;
+use layout_writes::write;
 use numbers::element;
 
 // How many entries there are.

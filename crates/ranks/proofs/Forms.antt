@@ -18,7 +18,7 @@ use Rattle.document.specs.declared.sizes.Sizes.{Sizes}
 use Rattle.document.specs.declared.answer.Outcome.the-variants.{Done, Refused}
 use Rattle.layout_laws.proofs.Sizes.{slot-inside}
 use Rattle.layout_laws.proofs.Walked.{laid-walked, follows-walked}
-use Rattle.layout_laws.proofs.Fresh.{zeroed-at, zeroed-length}
+use Rattle.layout.proofs.Zeroed.{zeroed-at, zeroed-length}
 use Rattle.calls.proofs.Slots.{takes-none, places-stay}
 use Rattle.ranks.specs.Form.{toRanked, toOpen, rankUpBy, openBy}
 use Rattle.document.specs.Answers.{rankUpAnswer, leaveAnswer}

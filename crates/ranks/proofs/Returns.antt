@@ -20,7 +20,7 @@ use Rattle.layout.specs.Follows.{membersAt, kept, Follows}
 use Rattle.layout.specs.SetUp.{zeroed}
 use Rattle.layout_laws.proofs.Keys.{Sought, found, missed, seek}
 use Rattle.layout_laws.proofs.Walked.{laid-walked}
-use Rattle.layout_laws.proofs.Fresh.{zeroed-at, zeroed-past, zeroed-length}
+use Rattle.layout.proofs.Zeroed.{zeroed-at, zeroed-past, zeroed-length}
 use Rattle.ranks.specs.Form.{prefixed, marked, blockedTo, toRanked, toOpen}
 use Rattle.ranks.proofs.Prefixes.{Recounted, recounted, over-same}
 use Rattle.ranks.proofs.Blocks.{blocks-length, blocks-past}

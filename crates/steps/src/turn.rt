@@ -10,7 +10,7 @@ ghost use Rattle.layout.specs.Writes.{putWord, putRowOwner, putPageOwner, putRo
 use document::sizes::Sizes;
 use layout::head;
 use layout::place;
-use layout::write;
+use layout_writes::write;
 
 // Row r is free again: filled with zeros.
 pub fn free_row(rows: &mut [u32], h: Sizes, r: u64)

@@ -1,7 +1,7 @@
 -- A refusal changes nothing; else all four slices are made fresh. Assumes nothing.
 use Rattle.layout.specs.Mem.{memOf}
 use Rattle.layout.specs.SetUp.{sizesOf}
-use Rattle.layout.proofs.SetUps.{refused, good, done}
+use Rattle.layout_writes.proofs.SetUps.{refused, good, done}
 use Rattle.contracts.proofs.SetUps.{sets-up}
 use borrow.Author.Needs.{needs}
 use Rattle.idset.proofs.setup.set_up.Statement.{statement}

@@ -5,8 +5,8 @@ use borrow.Author.Needs.{needs}
 use Rattle.layout.proofs.entry.word_by.Statement.{statement}
 use Rattle.layout.proofs.entry.word_by.Tie as tie
 
-at-requires : tie.Need-at-requires
-at-requires c κs = search needs
+direct-requires : tie.Need-direct-requires
+direct-requires c κs = search needs
 
 mul-at : tie.Need-mul-at
 mul-at c = search needs
@@ -14,11 +14,11 @@ mul-at c = search needs
 add-at : tie.Need-add-at
 add-at c = search needs
 
-at-requires-2 : tie.Need-at-requires-2
-at-requires-2 c κs = search needs
+at-requires : tie.Need-at-requires
+at-requires c κs = search needs
 
 returns : tie.Need-returns
-returns c = let a = c .before .before .before .before .args in c .at2 .ensures ∙ word-direct (a .table .now) (a .e) _ (c .before .before .at .ensures) (c .before .if1 .taken)
+returns c = let a = c .before .before .before .before .args in c .at .ensures ∙ word-direct (a .table .now) (a .e) _ (c .before .before .direct .ensures) (c .before .if1 .taken)
 
 mul-at-2 : tie.Need-mul-at-2
 mul-at-2 c = search needs
@@ -35,25 +35,25 @@ add-at-3 c = search needs
 add-at-4 : tie.Need-add-at-4
 add-at-4 c = search needs
 
-at-requires-3 : tie.Need-at-requires-3
-at-requires-3 c κs = search needs
+at-requires-2 : tie.Need-at-requires-2
+at-requires-2 c κs = search needs
 
 returns-2 : tie.Need-returns-2
-returns-2 c = let a = c .before .before .before .before .args in c .at3 .ensures ∙ word-over (a .table .now) (a .e) _ (c .before .before .at .ensures) (c .before .if1 .left)
+returns-2 c = let a = c .before .before .before .before .args in c .at2 .ensures ∙ word-over (a .table .now) (a .e) _ (c .before .before .direct .ensures) (c .before .if1 .left)
 
 pub word-by-spec : {M : Type 1} → statement M
 word-by-spec =
     tie.close
     (tie.spec
-    at-requires
+    direct-requires
     mul-at
     add-at
-    at-requires-2
+    at-requires
     returns
     mul-at-2
     add-at-2
     mul-at-3
     add-at-3
     add-at-4
-    at-requires-3
+    at-requires-2
     returns-2)

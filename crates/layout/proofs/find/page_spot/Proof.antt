@@ -7,14 +7,14 @@ use borrow.Author.Needs.{needs}
 use Rattle.layout.proofs.find.page_spot.Statement.{statement}
 use Rattle.layout.proofs.find.page_spot.Tie as tie
 
-at-requires : tie.Need-at-requires
-at-requires c κs = search needs
+shift-requires : tie.Need-shift-requires
+shift-requires c κs = search needs
 
 sub-k : tie.Need-sub-k
 sub-k c = search needs
 
-at-requires-2 : tie.Need-at-requires-2
-at-requires-2 c κs = search needs
+pages-requires : tie.Need-pages-requires
+pages-requires c κs = search needs
 
 high-requires : tie.Need-high-requires
 high-requires c κs = search needs
@@ -22,15 +22,15 @@ high-requires c κs = search needs
 returns : tie.Need-returns
 returns c =
     let a = c .before .before .before .before .before .args in
-    page-no (a .table .now) (a .pages) (a .p) _ _ _ (ap (λ (i : ℕ). i - 6) (c .before .before .before .at .ensures)) (c .before .before .at2 .ensures)
+    page-no (a .table .now) (a .pages) (a .p) _ _ _ (ap (λ (i : ℕ). i - 6) (c .before .before .before .shift .ensures)) (c .before .before .pages .ensures)
     (c .before .high .ensures) (c .if1 .taken)
 
 shifted-requires : tie.Need-shifted-requires
 shifted-requires c κs =
     let a = c .before .before .before .before .before .args in
-    let l = page-fits (a .table .now) (a .pages) (a .p) _ _ _ (ap (λ (i : ℕ). i - 6) (c .before .before .before .at .ensures))
-    (c .before .before .at2 .ensures) (c .before .high .ensures) (c .if1 .left) in
-    let s = c .before .before .before .at .ensures in
+    let l = page-fits (a .table .now) (a .pages) (a .p) _ _ _ (ap (λ (i : ℕ). i - 6) (c .before .before .before .shift .ensures))
+    (c .before .before .pages .ensures) (c .before .high .ensures) (c .if1 .left) in
+    let s = c .before .before .before .shift .ensures in
     let q = c .before .before .before .before .before .pre .1 in
     let g = c .before .before .before .before .before .good in
     (omega arith, omega arith)
@@ -41,17 +41,17 @@ pow2-requires c κs = search needs
 returns-2 : tie.Need-returns-2
 returns-2 c =
     let a = c .before .before .before .before .before .before .before .args in
-    page-there (a .table .now) (a .pages) (a .p) _ _ _ (ap (λ (i : ℕ). i - 6) (c .before .before .before .before .before .at .ensures))
-    (c .before .before .before .before .at2 .ensures) (c .before .before .before .high .ensures) (c .before .before .if1 .left) _ _
+    page-there (a .table .now) (a .pages) (a .p) _ _ _ (ap (λ (i : ℕ). i - 6) (c .before .before .before .before .before .shift .ensures))
+    (c .before .before .before .before .pages .ensures) (c .before .before .before .high .ensures) (c .before .before .if1 .left) _ _
     (c .before .shifted .ensures) (c .pow2 .ensures)
 
 pub page-spot-spec : {M : Type 1} → statement M
 page-spot-spec =
     tie.close
     (tie.spec
-    at-requires
+    shift-requires
     sub-k
-    at-requires-2
+    pages-requires
     high-requires
     returns
     shifted-requires

@@ -1,6 +1,7 @@
 -- By the word's place. Assumes nothing.
 use native.Mathlib.Omega.{arith}
 use mathlib.Core.Path.{_∙_}
+use lib.ListN.{length}
 use Rattle.layout.specs.Sizes.{headerAt}
 use Rattle.layout.proofs.Places.{sparse-small}
 use Rattle.layout.proofs.Spots.{spot-way}
@@ -19,7 +20,7 @@ enum-known-r c = search needs
 
 row-spot-requires : tie.Need-row-spot-requires
 row-spot-requires c κs =
-    let s = sparse-small (c .before .before .before .before .before .args .w) _ _ _ (c .before .before .before .decode .ensures)
+    let s = sparse-small (c .before .before .before .before .before .before .before .args .w) _ _ _ (c .before .before .before .decode .ensures)
     (c .before .r .given .1) in
     omega (arith, s .0)
 
@@ -31,19 +32,19 @@ page-spot-requires c κs = search needs
 
 returns : tie.Need-returns
 returns c =
-    let a = c .before .before .before .before .args in
-    spot-way (headerAt (a .table .now)) (a .pages) (a .rows) (a .w) _ _ (c .before .before .decode .ensures) (c .enum-told .given .1)
+    let a = c .before .before .before .before .before .before .args in
+    spot-way (headerAt (a .table .now)) (length (a .pages .now)) (length (a .rows .now)) (a .w) _ _ (c .before .before .decode .ensures) (c .enum-told .given .1)
 
 returns-2 : tie.Need-returns-2
 returns-2 c =
-    let a = c .before .before .before .before .before .before .args in
-    c .row-spot .ensures ∙ spot-way (headerAt (a .table .now)) (a .pages) (a .rows) (a .w) _ _ (c .before .before .before .before .decode .ensures)
+    let a = c .before .before .before .before .before .before .before .before .args in
+    c .row-spot .ensures ∙ spot-way (headerAt (a .table .now)) (length (a .pages .now)) (length (a .rows .now)) (a .w) _ _ (c .before .before .before .before .decode .ensures)
     (c .before .before .r .given .1)
 
 returns-3 : tie.Need-returns-3
 returns-3 c =
-    let a = c .before .before .before .before .before .before .args in
-    c .page-spot .ensures ∙ spot-way (headerAt (a .table .now)) (a .pages) (a .rows) (a .w) _ _ (c .before .before .before .before .decode .ensures)
+    let a = c .before .before .before .before .before .before .before .before .args in
+    c .page-spot .ensures ∙ spot-way (headerAt (a .table .now)) (length (a .pages .now)) (length (a .rows .now)) (a .w) _ _ (c .before .before .before .before .decode .ensures)
     (c .before .before .p .given .1)
 
 pub spot-of-spec : {M : Type 1} → statement M

@@ -1,5 +1,5 @@
 -- The straight line of tests is the definition. Assumes nothing.
-use Rattle.layout.specs.Tests.{roomy}
+use Rattle.layout.proofs.Heads.{room-passes}
 use borrow.Author.Needs.{needs}
 use Rattle.layout.proofs.head.has_room.Statement.{statement}
 use Rattle.layout.proofs.head.has_room.Tie as tie
@@ -32,8 +32,9 @@ add-result-4 : tie.Need-add-result-4
 add-result-4 c = search needs
 
 returns : tie.Need-returns
-unfolding roomy
-returns c = cc
+returns c =
+    let b = c .before .before .before .before in
+    room-passes _ _ _ _ _ _ _ _ (b .before .before .page-at .ensures) (b .before .row-at .ensures) (b .block-at .ensures)
 
 pub has-room-spec : {M : Type 1} → statement M
 has-room-spec =

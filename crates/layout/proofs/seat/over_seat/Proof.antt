@@ -5,13 +5,13 @@ use borrow.Author.Needs.{needs}
 use Rattle.layout.proofs.seat.over_seat.Statement.{statement}
 use Rattle.layout.proofs.seat.over_seat.Tie as tie
 
-at-requires : tie.Need-at-requires
-at-requires c κs = search needs
+total-requires : tie.Need-total-requires
+total-requires c κs = search needs
 
 returns : tie.Need-returns
 returns c =
     let a = c .before .before .before .args in
-    seat-past (a .table .now) (a .a) (a .n) (a .c) (a .k) (c .before .if1 .taken) _ (c .at .ensures)
+    seat-past (a .table .now) (a .a) (a .n) (a .c) (a .k) (c .before .if1 .taken) _ (c .total .ensures)
 
 mul-i : tie.Need-mul-i
 mul-i c = search needs
@@ -40,7 +40,7 @@ pub over-seat-spec : {M : Type 1} → statement M
 over-seat-spec =
     tie.close
     (tie.spec
-    at-requires
+    total-requires
     returns
     mul-i
     add-i

@@ -4,14 +4,14 @@ use borrow.Author.Needs.{needs}
 use Rattle.layout.proofs.seat.seat_of.Statement.{statement}
 use Rattle.layout.proofs.seat.seat_of.Tie as tie
 
-at-requires : tie.Need-at-requires
-at-requires c κs = search needs
+direct-requires : tie.Need-direct-requires
+direct-requires c κs = search needs
 
 overflow-seat-requires : tie.Need-overflow-seat-requires
 overflow-seat-requires c κs = search needs
 
 returns : tie.Need-returns
-returns c = let a = c .before .before .before .before .args in in-overflow (a .table .now) (a .c) _ (c .before .before .at .ensures) (c .before .if1 .taken) _ (c .overflow-seat .ensures)
+returns c = let a = c .before .before .before .before .args in in-overflow (a .table .now) (a .c) _ (c .before .before .direct .ensures) (c .before .if1 .taken) _ (c .overflow-seat .ensures)
 
 mul-i : tie.Need-mul-i
 mul-i c = search needs
@@ -35,16 +35,16 @@ shared-slice-read-t15 : tie.Need-shared-slice-read-t15
 shared-slice-read-t15 c = search needs
 
 returns-2 : tie.Need-returns-2
-returns-2 c = let a = c .before .before .before .before .before .before .args in in-table (a .table .now) (a .c) _ (c .before .before .before .before .at .ensures) (c .before .before .before .if1 .left) (c .before .before .if2 .taken)
+returns-2 c = let a = c .before .before .before .before .before .before .args in in-table (a .table .now) (a .c) _ (c .before .before .before .before .direct .ensures) (c .before .before .before .if1 .left) (c .before .before .if2 .taken)
 
 returns-3 : tie.Need-returns-3
-returns-3 c = let a = c .before .before .before .before .args in past-table (a .table .now) (a .c) _ (c .before .before .at .ensures) (c .before .if1 .left) (c .if2 .left)
+returns-3 c = let a = c .before .before .before .before .args in past-table (a .table .now) (a .c) _ (c .before .before .direct .ensures) (c .before .if1 .left) (c .if2 .left)
 
 pub seat-of-spec : {M : Type 1} → statement M
 seat-of-spec =
     tie.close
     (tie.spec
-    at-requires
+    direct-requires
     overflow-seat-requires
     returns
     mul-i

@@ -1,0 +1,82 @@
+// The owners of rows and of pages, each as one run: the lowest free one, and how many are taken.
+ghost use mathlib.Core.Path.{_≡_};
+ghost use mathlib.Core.Bool.{not};
+ghost use Prim.Native.Nat.{ℕ, _+_, _-_, _≤_};
+ghost use lib.ListN.{getD};
+ghost use lib.Dec.{eqb};
+ghost use Rattle.sums.specs.Ids.{count};
+ghost use Rattle.document.specs.Sizes.{InRange};
+ghost use Rattle.layout.specs.Places.{rowOwner, pageOwner};
+ghost use Rattle.layout.specs.Free.{firstFree};
+use document::sizes::Sizes;
+use layout::head;
+use numbers::element;
+
+// The first of places i to n - 1 whose owner is 0, else the one past them; the owners start at a.
+fn first_free(table: &[u64], a: u64, i: u64, n: u64) -> u64
+    requires { ⌜ (a ≤ 1048576) × (i ≤ 65536) × (n ≤ 65536) ⌝ }
+    ensures { λ r. ⌜ r ≡ firstFree (λ (j : ℕ). getD (now (table .entry)) (a + j) 0) i (n - i) ⌝ }
+{
+    let mut k = i;
+    while k < n {
+        if element::at(table, a + k) == 0 {
+            return k;
+        }
+        k += 1;
+    }
+    k
+}
+
+// The lowest free row, R where there is none.
+pub fn free_row(table: &[u64], h: Sizes) -> u64
+    requires { ⌜ InRange h ⌝ }
+    ensures { λ r. ⌜ r ≡ firstFree (rowOwner h (now (table .entry))) 0 (h .r) ⌝ }
+{
+    first_free(table, head::row_owners_at(h), 0, h.r)
+}
+
+// The lowest free page, P where there is none.
+pub fn free_page(table: &[u64], h: Sizes) -> u64
+    requires { ⌜ InRange h ⌝ }
+    ensures { λ p. ⌜ p ≡ firstFree (pageOwner h (now (table .entry))) 0 (h .p) ⌝ }
+{
+    first_free(table, head::page_owners_at(h), 0, h.p)
+}
+
+// The lowest free page from `next` on.
+pub fn next_page(table: &[u64], h: Sizes, next: u64) -> u64
+    requires { ⌜ InRange h × (next ≤ 65536) ⌝ }
+    ensures { λ p. ⌜ p ≡ firstFree (pageOwner h (now (table .entry))) next (h .p - next) ⌝ }
+{
+    first_free(table, head::page_owners_at(h), next, h.p)
+}
+
+// How many of the n owners from a on are not 0.
+fn owned_count(table: &[u64], a: u64, n: u64) -> u64
+    requires { ⌜ (a ≤ 1048576) × (n ≤ 65536) ⌝ }
+    ensures { λ k. ⌜ k ≡ count (λ (i : ℕ). not (eqb (getD (now (table .entry)) (a + i) 0) 0)) n ⌝ }
+{
+    let mut k: u64 = 0;
+    let mut i: u64 = 0;
+    while i < n {
+        k += (element::at(table, a + i) != 0) as u64;
+        i += 1;
+    }
+    k
+}
+
+// How many rows have an owner.
+pub fn rows_owned(table: &[u64], h: Sizes) -> u64
+    requires { ⌜ InRange h ⌝ }
+    ensures { λ k. ⌜ k ≡ count (λ (r : ℕ). not (eqb (rowOwner h (now (table .entry)) r) 0)) (h .r) ⌝ }
+{
+    owned_count(table, head::row_owners_at(h), h.r)
+}
+
+// How many pages have an owner.
+pub fn pages_owned(table: &[u64], h: Sizes) -> u64
+    requires { ⌜ InRange h ⌝ }
+    ensures { λ k. ⌜ k ≡ count (λ (p : ℕ). not (eqb (pageOwner h (now (table .entry)) p) 0)) (h .p) ⌝ }
+{
+    owned_count(table, head::page_owners_at(h), h.p)
+}

@@ -1,0 +1,179 @@
+// The walk over the table that calls make before they write to many chunks, or plan: every rule that is the table's alone.
+ghost use mathlib.Core.Path.{_≡_};
+ghost use Prim.Native.Nat.{_+_, _≤_};
+ghost use lib.ListN.{length};
+ghost use lib.Dec.{eqb};
+ghost use Rattle.sums.specs.Rules.{allTo};
+ghost use Rattle.layout.specs.Mem.{memOf};
+ghost use Rattle.document.specs.Sizes.{InRange};
+ghost use Rattle.layout.specs.Sizes.{tableSize, overCount};
+ghost use Rattle.layout.specs.Tests.{keyIs, wordIs, placeIs, ranksRise, headIs, overIs, entriesAre, tableIs, walked};
+use crate::owners;
+use crate::zeros;
+use document::sizes::Sizes;
+use layout::entry;
+use layout::head;
+use layout::place;
+use layout::place::Place;
+use numbers::element;
+use numbers::order;
+use numbers::power;
+
+// An owner names chunk c when it is c + 1; a chunk id of 2^64 - 1 has no owner.
+pub fn owner_is(o: u64, c: u64) -> bool
+    ensures { λ b. ⌜ b ≡ eqb o (c + 1) ⌝ }
+{
+    (1 <= o) & (order::minus(o, 1) == c)
+}
+
+// Overflow entry j's id: at least D, below 2^(63-s), below the next.
+pub fn key_is(table: &[u64], h: Sizes, j: u64) -> bool
+    requires { ⌜ InRange h × (j ≤ 65536) ⌝ }
+    ensures { λ b. ⌜ b ≡ keyIs h (now (table .entry)) j ⌝ }
+{
+    let k = element::at(table, 16 + 2 * h.d + 3 * j);
+    let next = element::at(table, 16 + 2 * h.d + 3 * (j + 1));
+    (h.d <= k) & (k < power::pow2(63 - h.s)) & ((element::at(table, 7) <= j + 1) | (k < next))
+}
+
+pub fn keys_are(table: &[u64], h: Sizes) -> bool
+    requires { ⌜ InRange h × (overCount (now table) ≤ 65536) ⌝ }
+    ensures { λ b. ⌜ b ≡ allTo (keyIs h (now (table .entry))) (overCount (now (table .entry))) ⌝ }
+{
+    let n = element::at(table, 7);
+    let mut ok = true;
+    let mut j: u64 = 0;
+    while j < n {
+        ok = ok & key_is(table, h, j);
+        j += 1;
+    }
+    ok
+}
+
+// The words of overflow entries in use are not 0.
+pub fn words_are(table: &[u64], h: Sizes) -> bool
+    requires { ⌜ InRange h × (overCount (now table) ≤ 65536) ⌝ }
+    ensures { λ b. ⌜ b ≡ allTo (wordIs h (now (table .entry))) (overCount (now (table .entry))) ⌝ }
+{
+    let n = element::at(table, 7);
+    let mut ok = true;
+    let mut j: u64 = 0;
+    while j < n {
+        ok = ok & (entry::over_word(table, h, j) != 0);
+        j += 1;
+    }
+    ok
+}
+
+// Overflow entries: ids, words, and zeros past those in use.
+pub fn over_is(table: &[u64], h: Sizes) -> bool
+    requires { ⌜ InRange h × (tableSize h ≤ length (now table)) × (overCount (now table) ≤ h .v) ⌝ }
+    ensures { λ b. ⌜ b ≡ overIs h (now (table .entry)) ⌝ }
+{
+    let n = element::at(table, 7);
+    keys_are(table, h)
+        & words_are(table, h)
+        & zeros::zeros64(table, head::over_at(h, n), head::over_words(h, n))
+}
+
+// Entry e's word names a row or page inside its pool whose owner is the entry's chunk.
+pub fn place_is(table: &[u64], h: Sizes, e: u64) -> bool
+    requires { ⌜ InRange h × (e ≤ 327680) ⌝ }
+    ensures { λ b. ⌜ b ≡ placeIs h (now (table .entry)) e ⌝ }
+{
+    let c = entry::chunk_at(table, h, e);
+    match entry::place_at(table, h, e) {
+        Place::Absent => true,
+        Place::Sparse(r, l) => {
+            if h.r <= r {
+                return false;
+            }
+            (1 <= l) & (l <= h.m) & owner_is(entry::row_owner(table, h, r), c)
+        }
+        Place::Dense(p) => {
+            if h.p <= p {
+                return false;
+            }
+            owner_is(entry::page_owner(table, h, p), c)
+        }
+    }
+}
+
+// All entries in one pass: their places, and how many rows and pages they name.
+pub fn entries_are(table: &[u64], h: Sizes) -> bool
+    requires { ⌜ InRange h × (overCount (now table) ≤ 65536) ⌝ }
+    ensures { λ b. ⌜ b ≡ entriesAre h (now (table .entry)) ⌝ }
+{
+    let n = h.d + element::at(table, 7);
+    let mut ok = true;
+    let mut rows: u64 = 0;
+    let mut pages: u64 = 0;
+    let mut e: u64 = 0;
+    while e < n {
+        let q = entry::place_at(table, h, e);
+        ok = ok & place_is(table, h, e);
+        rows += place::has_row(q) as u64;
+        pages += place::has_page(q) as u64;
+        e += 1;
+    }
+    ok & ((owners::rows_owned(table, h) == rows) & (owners::pages_owned(table, h) == pages))
+}
+
+// Prefixes of a ranked set, each read once; an open one keeps none.
+pub fn ranks_rise(table: &[u64], h: Sizes) -> bool
+    requires { ⌜ InRange h × (overCount (now table) ≤ 65536) ⌝ }
+    ensures { λ b. ⌜ b ≡ ranksRise h (now (table .entry)) ⌝ }
+{
+    if element::at(table, 6) != 1 {
+        return true;
+    }
+    let n = h.d + element::at(table, 7);
+    let mut ok = true;
+    let mut prefix: u64 = 0;
+    let mut e: u64 = 0;
+    while e < n {
+        let next = entry::prefix_at(table, h, e);
+        ok = ok & (prefix <= next);
+        prefix = next;
+        e += 1;
+    }
+    let total = element::at(table, 8);
+    ok & (prefix <= total) & (total < 9223372036854775808)
+}
+
+// The sizes are allowed, the slices long enough, the mode is known and the overflow entries in use fit.
+pub fn head_is(h: Sizes, pages: &[u64], rows: &[u32], blocks: &[u32], table: &[u64]) -> bool
+    ensures { λ b. ⌜ b ≡ headIs h (memOf (pages .entry) (rows .entry) (blocks .entry) (table .entry)) ⌝ }
+{
+    if !head::in_range(h) {
+        return false;
+    }
+    head::has_room(
+        h,
+        pages.len() as u64,
+        rows.len() as u64,
+        blocks.len() as u64,
+        table.len() as u64,
+    )
+        & (element::at(table, 6) <= 1)
+        & (element::at(table, 7) <= h.v)
+}
+
+// The table past its sizes: unused words, overflow entries, all entries, prefixes.
+pub fn table_is(table: &[u64], h: Sizes) -> bool
+    requires { ⌜ InRange h × (tableSize h ≤ length (now table)) × (overCount (now table) ≤ h .v) ⌝ }
+    ensures { λ b. ⌜ b ≡ tableIs h (now (table .entry)) ⌝ }
+{
+    zeros::zeros64(table, 9, 7) & over_is(table, h) & entries_are(table, h) & ranks_rise(table, h)
+}
+
+// After it nothing of the table can be found wrong.
+pub fn walk(pages: &[u64], rows: &[u32], blocks: &[u32], table: &[u64]) -> bool
+    ensures { λ b. ⌜ b ≡ walked (memOf (pages .entry) (rows .entry) (blocks .entry) (table .entry)) ⌝ }
+{
+    let h = head::read(table);
+    if !head_is(h, pages, rows, blocks, table) {
+        return false;
+    }
+    table_is(table, h)
+}
