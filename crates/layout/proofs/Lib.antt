@@ -9,5 +9,6 @@ pub mod SetUps
 pub mod Seats
 pub mod Free
 pub mod Parts
+pub mod Lent
 pub mod Added
 pub mod Gaps

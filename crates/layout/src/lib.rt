@@ -3,6 +3,7 @@ pub mod entry;
 pub mod find;
 pub mod head;
 pub mod owners;
+pub mod part;
 pub mod place;
 pub mod seat;
 pub mod setup;
