@@ -7,4 +7,5 @@ pub mod Spots
 pub mod Seats
 pub mod Zeroed
 pub mod Parts
+pub mod Lent
 pub mod Added

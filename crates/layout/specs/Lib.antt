@@ -7,6 +7,7 @@ pub mod Follows
 pub mod Tests
 pub mod SetUp
 pub mod Short
+pub mod Part
 pub mod Seat
 pub mod Free
 pub mod Lowest

@@ -31,6 +31,13 @@ overPut h t c w k = cond (ltb k (overCount t) && eqb (getD t (overAt h k) 0) c) 
 unfoldable pub putWord : Sizes → List ℕ → ℕ → ℕ → List ℕ
 putWord h t c w = cond (ltb c (h .d)) (set t (directAt c) w) (overPut h t c w (overPlace t (overStart (h .d)) (overCount t) c))
 
+-- header words: the mode, the members in all
+abbrev pub putMode : List ℕ → ℕ → List ℕ
+putMode t mode = set t 6 mode
+
+abbrev pub putTotal : List ℕ → ℕ → List ℕ
+putTotal t total = set t 8 total
+
 -- v as the prefix of entry e
 abbrev pub putPrefix : Sizes → List ℕ → ℕ → ℕ → List ℕ
 putPrefix h t e v = set t (prefixPlace h e) v

@@ -4,6 +4,7 @@ ghost use Prim.Native.Nat.{_*_, _-_, _≤_};
 ghost use Rattle.document.specs.Sizes.{InRange};
 ghost use Rattle.layout.specs.Sizes.{headerAt, modeAt, overCount, totalAt, wide, blocksOf, overAt, rowOwnersAt, pageOwnersAt};
 ghost use Rattle.layout.specs.Tests.{inRange, roomy};
+ghost use Rattle.layout.specs.Writes.{putMode, putTotal};
 use document::sizes::Sizes;
 use numbers::element;
 use numbers::power;
@@ -75,6 +76,18 @@ pub fn total(table: &[u64]) -> u64
     ensures { λ n. ⌜ n ≡ totalAt (now (table .entry)) ⌝ }
 {
     element::at(table, 8)
+}
+
+pub fn put_mode(table: &mut [u64], n: u64)
+    ensures { λ _. ⌜ now (table .exit) ≡ putMode (now (table .entry)) n ⌝ }
+{
+    element::put(table, 6, n);
+}
+
+pub fn put_total(table: &mut [u64], n: u64)
+    ensures { λ _. ⌜ now (table .exit) ≡ putTotal (now (table .entry)) n ⌝ }
+{
+    element::put(table, 8, n);
 }
 
 // ---- the sizes

@@ -2,5 +2,6 @@
 pub mod entry;
 pub mod find;
 pub mod head;
+pub mod part;
 pub mod place;
 pub mod seat;
