@@ -2,7 +2,7 @@
 use mathlib.Core.Path.{_≡_, refl, sym, ap, ap₂, subst, _∙_}
 use mathlib.Core.List.{List}
 use mathlib.Core.Bool.{Bool, true, false, cond, _||_}
-use Prim.Native.Nat.{ℕ, _+_, _-_, _*_, _^_, _≤_, _<_}
+use Prim.Native.Nat.{ℕ, _+_, _-_, _*_, _^_, _<_}
 use native.Mathlib.Omega.{arith}
 use lib.Dec.{leb, ltb, eqb}
 use lib.ListN.{length, getD, take, length-take}
@@ -55,7 +55,8 @@ module _ {x : Mem} (w : Follows x) (c r l : ℕ) (e : placeOf (head x) (x .table
   pub offsets-rise : Rising (rowOf (offsetsOf x r l)) (length (offsetsOf x r l))
   offsets-rise =
       subst (Rising (rowOf (offsetsOf x r l))) (sym offsets-length)
-      (rising-ext (rowOf (rowPart (head x) (x .rows) r)) (rowOf (offsetsOf x r l)) l offset-at (listed-rising (head x) (rowPart (head x) (x .rows) r) l row-listed))
+      (rising-ext (rowOf (rowPart (head x) (x .rows) r)) (rowOf (offsetsOf x r l)) l offset-at
+      (listed-rising (head x) (rowPart (head x) (x .rows) r) l row-listed))
 
   pub offsets-below : (j : ℕ) → j < length (offsetsOf x r l) → getD (offsetsOf x r l) j 0 < top (head x)
   offsets-below j m =
@@ -177,3 +178,30 @@ unfolding unionMap kinds
 result-kept x y c e =
     ap (λ (q : Place). joined (kinds x c) (kindOf q) (unionSize (stateOf x) (stateOf y) c) (head x .m)) e
     ∙ joined-absent (kinds x c) (unionSize (stateOf x) (stateOf y) c) (head x .m)
+
+-- either way, by places alone
+abbrev pub kindAfter : Mem → Mem → Place → Place → Kind
+kindAfter x y o Absent = kindOf o
+kindAfter x y o (Sparse i k) = cond (isDense x y o (Sparse i k)) dense sparse
+kindAfter x y o (Dense p) = dense
+
+dense-there : (x y : Mem) (o : Place) (p : ℕ) → isDense x y o (Dense p) ≡ true
+dense-there x y Absent p = refl
+dense-there x y (Sparse r l) p = refl
+dense-there x y (Dense q) p = refl
+
+pub result-is : {x y : Mem} → Follows x → Follows y → sameShape (head x) (head y) ≡ true → (c : ℕ)
+    → unionMap (stateOf x) (stateOf y) c ≡ kindAfter x y (placeOf (head x) (x .table) c) (placeOf (head y) (y .table) c)
+unfolding kinds
+result-is {x} {y} w v same c = go (placeOf (head y) (y .table) c) refl
+  where
+    o : Place
+    o = placeOf (head x) (x .table) c
+
+    given : (q : Place) → placeOf (head y) (y .table) c ≡ q → isPlaced q ≡ true → unionMap (stateOf x) (stateOf y) c ≡ cond (isDense x y o q) dense sparse
+    given q e p = result-kind w v same c (ap isPlaced e ∙ p) ∙ ap (λ (i : Place). cond (isDense x y o i) dense sparse) e
+
+    go : (q : Place) → placeOf (head y) (y .table) c ≡ q → unionMap (stateOf x) (stateOf y) c ≡ kindAfter x y o q
+    go Absent e = result-kept x y c e
+    go (Sparse i k) e = given (Sparse i k) e refl
+    go (Dense p) e = given (Dense p) e refl ∙ ap (λ (b : Bool). cond b dense sparse) (dense-there x y o p)
