@@ -1,0 +1,4 @@
+pub mod Standing
+pub mod Results
+pub mod Counts
+pub mod Judged
