@@ -8,6 +8,7 @@ use Rattle.document.specs.Refusals.{outside-sizes, too-short}
 use Rattle.document.specs.Calls.{Call, Said, whether, many, maybe, listed}
 use Rattle.document.specs.Calls.{Ask, get, any-in-range, chunk-of, len, is-empty, has-any, chunk-count, iterate, rank-of, rank-if, total-count, check}
 use Rattle.document.specs.Answers.{answer, after, reply}
+use Rattle.document.specs.Union.{Join, unionAnswer, united, leftover}
 use Rattle.document.specs.declared.sizes.Sizes.{Sizes}
 use Rattle.document.specs.declared.answer.Outcome.{Outcome}
 use Rattle.document.specs.declared.answer.Outcome.the-variants.{Done, Refused}
@@ -22,6 +23,7 @@ use Rattle.calls.specs.Counts.{lenBy, isEmptyBy, hasAnyBy, chunksBy}
 use Rattle.calls.specs.Range.{anyBy}
 use Rattle.calls.specs.Iteration.{iterBy}
 use Rattle.ranks.specs.Rank.{rankBy, rankIfBy, totalBy}
+use Rattle.unions.specs.Union.{met, unionBy}
 use Rattle.contracts.specs.Runs.{ran, ranBy}
 
 -- ---- calls that change a set
@@ -73,3 +75,18 @@ pub record SetsUp (h : Sizes) (x : Mem) (a : Outcome) (y : Mem) : Type 0 where
   pub outside : (InRange h → ⊥) → (a ≡ Refused outside-sizes) × (y ≡ x)
   pub short : InRange h → (RoomIn h x → ⊥) → (a ≡ Refused too-short) × (y ≡ x)
   pub made : InRange h → RoomIn h x → (a ≡ Done) × Follows y × (stateOf y ≡ empty h)
+
+-- ---- union
+
+-- document 01's answer, and both memories follow the layout and stand for document 01's sets
+pub record RightUnion (x y : Mem) (j : Join) (a : Outcome) (x′ y′ : Mem) : Type 0 where
+  pub follows : Follows x′
+  pub source-follows : Follows y′
+  pub said : a ≡ unionAnswer (stateOf x) (stateOf y) j
+  pub state : stateOf x′ ≡ united (stateOf x) (stateOf y) a
+  pub source-state : stateOf y′ ≡ leftover (stateOf y) j a
+
+-- the union into memory x of memory y answers a and leaves memories x′ and y′
+pub record Joins (x y : Mem) (j : Join) (a : Outcome) (x′ y′ : Mem) : Type 0 where
+  pub by : met a x′ y′ ≡ unionBy x y j
+  pub says : Follows x → Follows y → RightUnion x y j a x′ y′

@@ -40,7 +40,7 @@ use Rattle.contracts.proofs.SetUps.{sets-up}
 use Rattle.cuts.specs.Plan.{Cut, planBy}
 use Rattle.cuts.specs.Promise.{Plans}
 use Rattle.cuts.proofs.Plans.{plan-refused, plans-by}
-use Rattle.promises.specs.Histories.{Step, Ran, last, described, Kept}
+use Rattle.promises.specs.Histories.{Story, Ran, last, described, Kept}
 use Rattle.promises.specs.Cuts.{Cuts}
 use Rattle.promises.specs.Listings.{Asked, Asking, AllListed}
 use Rattle.promises.specs.Cases.{AllSay, table}
@@ -65,6 +65,11 @@ module _ (x : Mem) where
   pub unique-set-up : (h : Sizes) (a b : Outcome) (y z : Mem) → SetsUp h x a y → SetsUp h x b z → (a ≡ b) × (y ≡ z)
   unique-set-up h a b y z d e = let p = d .by ∙ sym (e .by) in (ap (λ (r : Did). r .answer) p, ap (λ (r : Did). r .after) p)
 
+  pub unique-union : (y : Mem) (j : Join) (a b : Outcome) (u v p q : Mem) → Joins x y j a u v → Joins x y j b p q → (a ≡ b) × (u ≡ p) × (v ≡ q)
+  unique-union y j a b u v p q d e =
+      let r = d .by ∙ sym (e .by) in
+      (ap (λ (m : Met). m .answer) r, ap (λ (m : Met). m .here) r, ap (λ (m : Met). m .there) r)
+
   pub unique-plan : (S : ℕ) (bs : List ℤ) (a b : Planning) (cs ds : List ℤ) → Plans x S bs a cs → Plans x S bs b ds → (a ≡ b) × (cs ≡ ds)
   unique-plan S bs a b cs ds d e = let p = d .by ∙ sym (e .by) in (ap (λ (r : Cut). r .answer) p, ap (λ (r : Cut). r .bounds) p)
 
@@ -78,6 +83,9 @@ module _ (x : Mem) where
   pub some-set-up : (h : Sizes) → SetsUp h x (setUpBy h x .answer) (setUpBy h x .after)
   some-set-up h = sets-up h x refl
 
+  pub some-union : (y : Mem) (j : Join) → Joins x y j (unionBy x y j .answer) (unionBy x y j .here) (unionBy x y j .there)
+  some-union y j = joins x y j refl
+
   pub some-plan : (S : ℕ) (bs : List ℤ) → Plans x S bs (planBy x S bs .answer) (planBy x S bs .bounds)
   some-plan S bs = record { by = refl; says = plans-by S bs (planBy x S bs .answer) (planBy x S bs .bounds) refl }
 
@@ -89,6 +97,9 @@ module _ (x : Mem) where
   pub refused-stays-set-up : (h : Sizes) (y : Mem) (n : ℕ) → SetsUp h x (Refused n) y → y ≡ x
   refused-stays-set-up h y n s = stays h x (s .by)
 
+  pub refused-stays-union : (y : Mem) (j : Join) (u v : Mem) (n : ℕ) → Joins x y j (Refused n) u v → (u ≡ x) × (v ≡ y)
+  refused-stays-union y j u v n d = union-stays x y j n (d .by)
+
   pub refused-stays-plan : (S : ℕ) (bs : List ℤ) (cs : List ℤ) (n : ℕ) → Plans x S bs (planning.Refused n) cs → cs ≡ bs
   refused-stays-plan S bs cs n p =
       ap (λ (c : Cut). c .bounds) (p .by) ∙ plan-refused x S bs n (sym (ap (λ (c : Cut). c .answer) (p .by)))
@@ -99,6 +110,11 @@ module _ (x : Mem) where
 
   pub spare-stays-set-up : (h : Sizes) (a : Outcome) (y : Mem) → SetsUp h x a y → Spare h x y
   spare-stays-set-up h a y s = subst (λ (r : Did). Spare h x (r .after)) (sym (s .by)) (set-up-spare h x)
+
+  pub spare-stays-union : (y : Mem) (j : Join) (a : Outcome) (u v : Mem) → Joins x y j a u v → Spare (head x) x u × Spare (head y) y v
+  spare-stays-union y j a u v d =
+      let p = union-spare x y j in
+      (subst (λ (m : Met). Spare (head x) x (m .here)) (sym (d .by)) (p .0), subst (λ (m : Met). Spare (head y) y (m .there)) (sym (d .by)) (p .1))
 
   -- nor boundaries past the last
   pub spare-stays-plan : (S : ℕ) (bs : List ℤ) (p : Plan) (cs : List ℤ) → Plans x S bs (planning.Made p) cs
@@ -127,45 +143,48 @@ module _ (x : Mem) (w : Follows x) where
   pub never-three-reading : (k : Ask) (a : Said) → Answers x k a → Refuses a 3 → ⊥
   never-three-reading k a d r = reply-not-three (stateOf x) k (subst (λ (b : Said). Refuses b 3) (d .says w) r)
 
+  pub never-three-union : (y : Mem) → Follows y → (j : Join) (u v : Mem) → Joins x y j (Refused 3) u v → ⊥
+  never-three-union y v j u z d = union-not-three (stateOf x) (stateOf y) j (sym (d .says w v .said))
+
   pub never-three-planning : (S : ℕ) (bs : List ℤ) (a : Planning) (cs : List ℤ) → Plans x S bs a cs → a ≡ planning.Refused 3 → ⊥
   never-three-planning S bs a cs p e = let s = p .says w in plan-not-three (stateOf x) S _ (sym (s .answer) ∙ e)
 
--- ---- demand 2: set-up made memory y, and then steps ran
+-- ---- demand 2: the history of a set that set-up made
 
-module _ (h : Sizes) (x y : Mem) (made : SetsUp h x Done y) (ss : List Step) (ran : Ran y ss) where
+module _ (s : Story) (ran : Ran s) where
   -- memory follows the layout and stands for the set that the accepted calls describe, and every answer was document 01's
-  pub kept : Kept y (empty h) ss
-  kept = let f = fit h x (made .by) in let m = made .made (f .0) (f .1) in all-kept y (empty h) ss (m .1) (m .2) ran
+  pub kept : Kept s
+  kept = all-kept s ran
 
   -- the set described
   abbrev pub now : State
-  now = described (empty h) ss
+  now = described s
 
   -- every reading call answers by that set, and the full check says yes
-  pub reads : (k : Ask) (a : Said) → Answers (last y ss) k a → a ≡ reply now k
+  pub reads : (k : Ask) (a : Said) → Answers (last s) k a → a ≡ reply now k
   reads k a d = d .says (kept .follows) ∙ ap (λ (q : State). reply q k) (kept .state)
 
-  pub check-says-yes : (a : Said) → Answers (last y ss) check a → a ≡ whether (Is true)
+  pub check-says-yes : (a : Said) → Answers (last s) check a → a ≡ whether (Is true)
   check-says-yes a d = reads check a d
 
   -- iteration: records from a start, each from where the last one said, up to the first with the mark, list exactly the members that are not below it, each once, rising
-  pub all-listed : (start : ℤ) (rs : List Listing) → Asked (last y ss) start rs → AllListed (now .members) start rs
-  all-listed start rs d = lists-all (last y ss) (now .members) (λ s r a. reads (iterate s) (listed r) a) start rs d
+  pub all-listed : (start : ℤ) (rs : List Listing) → Asked (last s) start rs → AllListed (now .members) start rs
+  all-listed start rs d = lists-all (last s) (now .members) (λ z r a. reads (iterate z) (listed r) a) start rs d
 
   -- the mark is reached, after at most total / 64 + 1 calls
-  pub mark-comes : (start : ℤ) (rs : List Listing) → Asking (last y ss) start rs → length rs ≤ total (now .members) / 64 + 1
-  mark-comes start rs d = ends-soon (last y ss) (now .members) (λ s r a. reads (iterate s) (listed r) a) start rs d
+  pub mark-comes : (start : ℤ) (rs : List Listing) → Asking (last s) start rs → length rs ≤ total (now .members) / 64 + 1
+  mark-comes start rs d = ends-soon (last s) (now .members) (λ z r a. reads (iterate z) (listed r) a) start rs d
 
-  pub mark-there : (start : ℤ) → (rs : List Listing) × Asked (last y ss) start rs
-  mark-there start = some-listed (last y ss) (now .members) (λ s r a. reads (iterate s) (listed r) a) start
+  pub mark-there : (start : ℤ) → (rs : List Listing) × Asked (last s) start rs
+  mark-there start = some-listed (last s) (now .members) (λ z r a. reads (iterate z) (listed r) a) start
 
   -- ranking an open set and leaving the ranked form reaches the same memory
-  pub ranked-and-left : now .mode ≡ false → (a b : Said) (u v : Mem) → Does (last y ss) rank-up a u → Does u leave b v → v ≡ last y ss
+  pub ranked-and-left : now .mode ≡ false → (a b : Said) (u v : Mem) → Does (last s) rank-up a u → Does u leave b v → v ≡ last s
   ranked-and-left o a b u v d e = up-and-back (kept .follows) (ap (λ (q : State). q .mode) (kept .state) ∙ o) d e
 
   -- in a ranked set the k-th member in rising order, counted from 0, has rank k, and no other member has
   pub nth : now .mode ≡ true → (k : ℕ) → k < total (now .members) →
-      (n : ℕ) × (now .members n ≡ true) × ((a : Said) → Answers (last y ss) (rank-of (pos n)) a → a ≡ many (amount.Of k))
+      (n : ℕ) × (now .members n ≡ true) × ((a : Said) → Answers (last s) (rank-of (pos n)) a → a ≡ many (amount.Of k))
       × ((m : ℕ) → now .members m ≡ true → rank (now .members) (pos m) ≡ k → m ≡ n)
   unfolding rank rankAnswer
   nth o k l =
@@ -180,10 +199,10 @@ module _ (h : Sizes) (x y : Mem) (made : SetsUp h x Done y) (ss : List Step) (ra
       )
 
   -- ---- demand 3: planning the set that a history reaches and ranks, for every S and every room
-  pub cuts : now .mode ≡ true → (S : ℕ) (bs : List ℤ) (a : Planning) (cs : List ℤ) → Plans (last y ss) S bs a cs → Cuts (now .members) S bs a cs
+  pub cuts : now .mode ≡ true → (S : ℕ) (bs : List ℤ) (a : Planning) (cs : List ℤ) → Plans (last s) S bs a cs → Cuts (now .members) S bs a cs
   cuts o S bs a cs p =
-      let s = p .says (kept .follows) in
-      subst (λ (q : State). Cuts (q .members) S bs a cs) (kept .state) (cut-set (stateOf (last y ss)) S bs a cs s (ap (λ (q : State). q .mode) (kept .state) ∙ o))
+      let f = p .says (kept .follows) in
+      subst (λ (q : State). Cuts (q .members) S bs a cs) (kept .state) (cut-set (stateOf (last s)) S bs a cs f (ap (λ (q : State). q .mode) (kept .state) ∙ o))
 
 -- ---- every row of the worked cases holds
 pub cases : AllSay table

@@ -1,6 +1,6 @@
--- Histories: steps one after the other, each one that its contract allows on the memory before it; and what they describe.
+-- Histories of any number of sets: from a set-up on, step after step, each one that its contract allows on the memory before it; a union takes in another set's history.
 use mathlib.Core.Path.{_≡_}
-use mathlib.Core.List.{List, [], _∷_}
+use mathlib.Core.List.{List}
 use Prim.Native.Nat.{ℕ}
 use lib.IntN.{ℤ}
 use Rattle.document.specs.Sizes.{InRange}
@@ -8,6 +8,7 @@ use Rattle.document.specs.State.{State, empty}
 use Rattle.document.specs.Refusals.{outside-sizes, too-short}
 use Rattle.document.specs.Calls.{Call, Ask, Said}
 use Rattle.document.specs.Answers.{answer, after, reply}
+use Rattle.document.specs.Union.{Join, unionAnswer, united, leftover}
 use Rattle.document.specs.Plan.{PlansFor}
 use Rattle.document.specs.declared.sizes.Sizes.{Sizes}
 use Rattle.document.specs.declared.answer.Outcome.{Outcome}
@@ -17,31 +18,52 @@ use Rattle.layout.specs.Mem.{Mem}
 use Rattle.layout.specs.Sizes.{RoomIn}
 use Rattle.layout.specs.Meaning.{stateOf}
 use Rattle.layout.specs.Follows.{Follows}
-use Rattle.contracts.specs.Does.{Does, Answers, SetsUp}
+use Rattle.contracts.specs.Does.{Does, Answers, SetsUp, Joins}
 use Rattle.cuts.specs.Promise.{Plans}
 
--- a call, its answer, and what it leaves; a reading call and its answer
+-- a call on one set, its answer, and what it leaves; a reading call and its answer
 pub data Step : Type 0 where
   set-up : Sizes → Outcome → Mem → Step
   changed : Call → Said → Mem → Step
   read : Ask → Said → Step
   planned : ℕ → List ℤ → Planning → List ℤ → Step
 
--- the steps ran, from memory x on
-abbrev pub Ran : Mem → List Step → Type 0
-Ran x [] = Unit
-Ran x (set-up h a y ∷ ss) = SetsUp h x a y × Ran y ss
-Ran x (changed c a y ∷ ss) = Does x c a y × Ran y ss
-Ran x (read k a ∷ ss) = Answers x k a × Ran x ss
-Ran x (planned S bs a cs ∷ ss) = Plans x S bs a cs × Ran x ss
+-- one set's history
+pub data Story : Type 0 where
+  -- set-up of these sizes in some memory made this memory
+  made : Sizes → Mem → Mem → Story
+  -- and then a step
+  then : Story → Step → Story
+  -- the union, into this set, of one with a history of its own; both memories after it
+  took : Story → Story → Join → Outcome → Mem → Mem → Story
+  -- the other side of that: the history of the set that was taken in comes second, and goes on
+  gave : Story → Story → Join → Outcome → Mem → Mem → Story
 
--- memory after them
-abbrev pub last : Mem → List Step → Mem
-last x [] = x
-last x (set-up h a y ∷ ss) = last y ss
-last x (changed c a y ∷ ss) = last y ss
-last x (read k a ∷ ss) = last x ss
-last x (planned S bs a cs ∷ ss) = last x ss
+-- memory after it
+abbrev pub lastBy : Mem → Step → Mem
+lastBy x (set-up h a y) = y
+lastBy x (changed c a y) = y
+lastBy x (read k a) = x
+lastBy x (planned S bs a cs) = x
+
+abbrev pub last : Story → Mem
+last (made h x y) = y
+last (then s t) = lastBy (last s) t
+last (took s t j a x y) = x
+last (gave s t j a x y) = y
+
+-- every contract allowed it
+abbrev pub Stepped : Mem → Step → Type 0
+Stepped x (set-up h a y) = SetsUp h x a y
+Stepped x (changed c a y) = Does x c a y
+Stepped x (read k a) = Answers x k a
+Stepped x (planned S bs a cs) = Plans x S bs a cs
+
+abbrev pub Ran : Story → Type 0
+Ran (made h x y) = SetsUp h x Done y
+Ran (then s t) = Ran s × Stepped (last s) t
+Ran (took s t j a x y) = Ran s × Ran t × Joins (last s) (last t) j a x y
+Ran (gave s t j a x y) = Ran s × Ran t × Joins (last s) (last t) j a x y
 
 -- ---- by document 01's words alone
 
@@ -50,13 +72,18 @@ abbrev pub remade : State → Sizes → Outcome → State
 remade q h Done = empty h
 remade q h (Refused n) = q
 
--- the set after them
-abbrev pub described : State → List Step → State
-described q [] = q
-described q (set-up h a y ∷ ss) = described (remade q h a) ss
-described q (changed c a y ∷ ss) = described (after q c) ss
-described q (read k a ∷ ss) = described q ss
-described q (planned S bs a cs ∷ ss) = described q ss
+abbrev pub describedBy : State → Step → State
+describedBy q (set-up h a y) = remade q h a
+describedBy q (changed c a y) = after q c
+describedBy q (read k a) = q
+describedBy q (planned S bs a cs) = q
+
+-- the set after it
+abbrev pub described : Story → State
+described (made h x y) = empty h
+described (then s t) = describedBy (described s) t
+described (took s t j a x y) = united (described s) (described t) a
+described (gave s t j a x y) = leftover (described t) j a
 
 -- 1, 2, or done
 pub record RightSetUp (h : Sizes) (x : Mem) (a : Outcome) : Type 0 where
@@ -65,15 +92,20 @@ pub record RightSetUp (h : Sizes) (x : Mem) (a : Outcome) : Type 0 where
   pub made : InRange h → RoomIn h x → a ≡ Done
 
 -- every answer is document 01's
-abbrev pub AllRight : Mem → State → List Step → Type 0
-AllRight x q [] = Unit
-AllRight x q (set-up h a y ∷ ss) = RightSetUp h x a × AllRight y (remade q h a) ss
-AllRight x q (changed c a y ∷ ss) = (a ≡ answer q c) × AllRight y (after q c) ss
-AllRight x q (read k a ∷ ss) = (a ≡ reply q k) × AllRight x q ss
-AllRight x q (planned S bs a cs ∷ ss) = PlansFor q S bs a cs × AllRight x q ss
+abbrev pub RightBy : Mem → State → Step → Type 0
+RightBy x q (set-up h a y) = RightSetUp h x a
+RightBy x q (changed c a y) = a ≡ answer q c
+RightBy x q (read k a) = a ≡ reply q k
+RightBy x q (planned S bs a cs) = PlansFor q S bs a cs
+
+abbrev pub AllRight : Story → Type 0
+AllRight (made h x y) = Unit
+AllRight (then s t) = AllRight s × RightBy (last s) (described s) t
+AllRight (took s t j a x y) = AllRight s × AllRight t × (a ≡ unionAnswer (described s) (described t) j)
+AllRight (gave s t j a x y) = AllRight s × AllRight t × (a ≡ unionAnswer (described s) (described t) j)
 
 -- demand 2: memory follows the layout and stands for the set described, and every answer was document 01's
-pub record Kept (x : Mem) (q : State) (ss : List Step) : Type 0 where
-  pub follows : Follows (last x ss)
-  pub state : stateOf (last x ss) ≡ described q ss
-  pub right : AllRight x q ss
+pub record Kept (s : Story) : Type 0 where
+  pub follows : Follows (last s)
+  pub state : stateOf (last s) ≡ described s
+  pub right : AllRight s
