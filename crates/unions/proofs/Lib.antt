@@ -1,1 +1,4 @@
 pub mod Standing
+pub mod Stepwise
+pub mod DenseTurns
+pub mod SparseTurns
