@@ -16,6 +16,7 @@ use Rattle.dense.specs.Bits.{bit, isSet, orWords, withRow}
 use Rattle.dense.proofs.Bits.{isSet-one, one-isSet, clear-zero, length-row, length-or, bit-row-kept, row-decides}
 use Rattle.dense.proofs.Sets.{isSet-or}
 use Rattle.document.specs.Sizes.{InRange, top, lastChunk}
+use Rattle.document.specs.Union.{sameShape}
 use Rattle.document.specs.declared.sizes.Sizes.{Sizes}
 use Rattle.layout.specs.Mem.{Mem, mem}
 use Rattle.layout.specs.Sizes.{wide, head}
@@ -37,7 +38,8 @@ use Rattle.calls.specs.Insert.{freePage}
 use Rattle.calls.specs.Prepare.{intoPage}
 use Rattle.calls.proofs.FirstFree.{first-free}
 use Rattle.unions.specs.Union.{isDense, pageOf, withSource, joinedPage, densely}
-use Rattle.unions.proofs.Stepwise.{Shape, becomes-same, place-after, offsets-after, becomes-as, becomes-then, page-anew}
+use Rattle.unions.proofs.Results.{same-s, same-top}
+use Rattle.unions.proofs.Stepwise.{becomes-same, place-after, offsets-after, becomes-as, becomes-then, page-anew}
 
 -- ---- a row's members into a page
 
@@ -141,7 +143,7 @@ module _ {x : Mem} (w : Follows x) (mode : ranked x ≡ false) (c : ℕ) (far : 
 
   -- ---- the turn
 
-  module _ {y : Mem} (v : Follows y) (same : Shape (head x) (head y)) (o q : Place) (at : here ≡ o) (from : placeOf (head y) (y .table) c ≡ q)
+  module _ {y : Mem} (v : Follows y) (same : sameShape (head x) (head y) ≡ true) (o q : Place) (at : here ≡ o) (from : placeOf (head y) (y .table) c ≡ q)
       (page : pageOf x o < head x .p) (entry : o ≡ Absent → EntryFor (head x) (x .table) c) where
     abbrev p : ℕ
     p = pageOf x o
@@ -156,10 +158,7 @@ module _ {x : Mem} (w : Follows x) (mode : ranked x ≡ false) (c : ℕ) (far : 
     was = pagePart (head z) (z .pages) p
 
     wide-same : wide (head y) ≡ wide (head z)
-    wide-same = ap (λ (k : ℕ). 2 ^ (k - 6)) (same .s ∙ sym (ap (λ (h : Sizes). h .s) (first .head-is)))
-
-    top-same : top (head y) ≡ top (head x)
-    top-same = ap (λ (k : ℕ). 2 ^ k) (same .s)
+    wide-same = ap (λ (k : ℕ). 2 ^ (k - 6)) (sym (same-s x y same) ∙ sym (ap (λ (h : Sizes). h .s) (first .head-is)))
 
     was-long : length was ≡ wide (head y)
     was-long = page-length (head z) z (first .follows .room) p (page-of (laid-walked (first .follows)) c p (place-after first) .there) ∙ sym wide-same
@@ -174,7 +173,7 @@ module _ {x : Mem} (w : Follows x) (mode : ranked x ≡ false) (c : ℕ) (far : 
 
     members : (n : ℕ) → n < top (head x) → isSet now n ≡ (offsets (head x) x o n || offsets (head y) y q n)
     members n l =
-        let t = top-same in
+        let t = same-top x y same in
         let i = offsets-after first n l in
         set-source v c was was-long n (omega arith) o q from (λ e. i ∙ ap (λ (r : Place). offsets (head x) x r n) e)
         ∙ ap (λ (b : Bool). b || offsets (head y) y q n) i

@@ -11,11 +11,9 @@ use lib.Pow.{pow-pos, high, low}
 use mir.Val.{boolByte}
 use borrow.Author.Tests.{eqb-true, eq-eqb}
 use Rattle.sums.specs.Ids.{Ids, count}
-use Rattle.sums.proofs.Rules.{both}
 use Rattle.dense.specs.Bits.{isSet}
 use Rattle.document.specs.Sizes.{top, lastChunk}
 use Rattle.document.specs.State.{Kind}
-use Rattle.document.specs.Union.{sameShape}
 use Rattle.document.specs.declared.sizes.Sizes.{Sizes}
 use Rattle.layout.specs.Mem.{Mem, mem}
 use Rattle.layout.specs.Sizes.{wide, pageOwnersAt, head}
@@ -34,17 +32,6 @@ use Rattle.steps.specs.Steps.{paged}
 use Rattle.steps.specs.Effects.{Open, PageFor, Becomes}
 use Rattle.steps.proofs.Paged.{paged-becomes}
 use Rattle.calls.proofs.Plans.{dense-word, set-same, put-same}
-
--- ---- the shape that two sets share
-
-pub record Shape (h g : Sizes) : Type 0 where
-  pub s : g .s ≡ h .s
-  pub m : g .m ≡ h .m
-
-pub shape : (h g : Sizes) → sameShape h g ≡ true → Shape h g
-shape h g e =
-    let b = both (eqb (h .s) (g .s)) (eqb (h .m) (g .m)) e in
-    record { s = sym (eqb-true (h .s) (g .s) (b .0)); m = sym (eqb-true (h .m) (g .m) (b .1)) }
 
 -- ---- no step
 
