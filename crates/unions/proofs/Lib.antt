@@ -5,3 +5,10 @@ pub mod Judged
 pub mod Stepwise
 pub mod DenseTurns
 pub mod SparseTurns
+pub mod Rooms
+pub mod Partly
+pub mod Halfway
+pub mod FirstPass
+pub mod SecondPass
+pub mod Passes
+pub mod Kept
