@@ -2,3 +2,13 @@ pub mod Standing
 pub mod Results
 pub mod Counts
 pub mod Judged
+pub mod Stepwise
+pub mod DenseTurns
+pub mod SparseTurns
+pub mod Rooms
+pub mod Partly
+pub mod Halfway
+pub mod FirstPass
+pub mod SecondPass
+pub mod Passes
+pub mod Kept
