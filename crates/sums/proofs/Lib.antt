@@ -12,3 +12,4 @@ pub mod Cuttings
 pub mod Theorems
 pub mod Listed
 pub mod Cases
+pub mod Filling
