@@ -4,6 +4,8 @@ pub mod Counting
 pub mod Clips
 pub mod RangeEntries
 pub mod Ranges
+pub mod IterationEntries
+pub mod Iterations
 pub mod Refusals
 pub mod FirstFree
 pub mod Slots
