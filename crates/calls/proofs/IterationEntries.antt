@@ -86,7 +86,7 @@ filled-at {x} w (Dense p) r b a ids k m =
 abbrev startAt : Mem → ℕ → ℕ → ℕ
 startAt x lo e = chunkBy x e * top (head x) + clipLow (top (head x)) lo (chunkBy x e)
 
--- the members of the n entries from e on, and of one
+-- its members from there on, and those of the n entries from e on
 abbrev idsAt : Mem → ℕ → ℕ → List ℕ
 idsAt x lo e = membersIn (holds x) (startAt x lo e) (top (head x) - clipLow (top (head x)) lo (chunkBy x e))
 

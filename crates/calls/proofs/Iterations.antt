@@ -57,13 +57,13 @@ module _ (P : Ids) where
 
 -- ---- what stands in a record
 
-module _ (P : Ids) (f n : ℕ) where
-  some-filled : n < 64 → filledBy blank 0 (nthFrom P f n) ≡ to (fill blank 0 (nthFrom P f n)) n
-  some-filled l = let e : min 64 (0 + length (nthFrom P f n)) ≡ n = omega (arith, nth-from-length P f n) in ap (to (fill blank 0 (nthFrom P f n))) e
+module _ (P : Ids) (f : ℕ) where
+  some-filled : (n : ℕ) → n < 64 → filledBy blank 0 (nthFrom P f n) ≡ to (fill blank 0 (nthFrom P f n)) n
+  some-filled n l = let e : min 64 (0 + length (nthFrom P f n)) ≡ n = omega (arith, nth-from-length P f n) in ap (to (fill blank 0 (nthFrom P f n))) e
 
   -- the first 64 of them
-  full-filled : 64 ≤ n → filledBy blank 0 (nthFrom P f n) ≡ to (fill blank 0 (nthFrom P f 64)) 64
-  full-filled l =
+  full-filled : (n : ℕ) → 64 ≤ n → filledBy blank 0 (nthFrom P f n) ≡ to (fill blank 0 (nthFrom P f 64)) 64
+  full-filled n l =
       let e : min 64 (0 + length (nthFrom P f n)) ≡ 64 = omega (arith, nth-from-length P f n) in
       let s : n ≡ 64 + (n - 64) = omega arith in
       let xs = nthFrom P f 64 in
@@ -103,34 +103,39 @@ module _ {x : Mem} (w : Follows x) (z : ℤ) where
   filled-is : fillFrom x (fromZero z) ≡ filledBy blank 0 (nthFrom P f left)
   filled-is = fill-from w (fromZero z) ∙ ap (filledBy blank 0) (left-is P z)
 
-  few : left < 64 → recordBy x z (filledBy blank 0 (nthFrom P f left)) ≡ listing P z
+  -- all of them, or the first 64
+  listed-all : left ≤ 64 → firstOf P z left true z ≡ listing P z
   unfolding listing
+  listed-all l = sym (ap (λ (b : Bool). cond b (firstOf P z left true z) (firstOf P z 64 false (pos (nth P (f + 63) + 1)))) (le-leb left 64 l))
+
+  listed-first : 64 < left → firstOf P z 64 false (pos (nth P (f + 63) + 1)) ≡ listing P z
+  unfolding listing
+  listed-first l = sym (ap (λ (b : Bool). cond b (firstOf P z left true z) (firstOf P z 64 false (pos (nth P (f + 63) + 1)))) (lt-leb left 64 l))
+
+  few : left < 64 → recordBy x z (filledBy blank 0 (nthFrom P f left)) ≡ listing P z
   few l =
       let ids = fill blank 0 (nthFrom P f left) in
       ap (recordBy x z) (some-filled P f left l)
       ∙ ap (λ (b : Bool). cond b (ended ids left z) (marked ids left z (anyBy x (sucℤ (lastId ids)) (pos (2 ^ 63 - 1))))) (lt-ltb left 64 l)
-      ∙ sym (ap (λ (b : Bool). cond b (firstOf P z left true z) (firstOf P z 64 false (pos (nth P (f + 63) + 1)))) (le-leb left 64 (omega arith)))
+      ∙ listed-all (omega arith)
 
   -- the mark, by whether there are more than 64
   mark : (b : Bool) → ltb (f + 64) (total P) ≡ b → 64 ≤ left → marked (fill blank 0 (nthFrom P f 64)) 64 z (truth.Is b) ≡ listing P z
-  unfolding listing
   mark true t l =
       let m = ltb-true (f + 64) (total P) t in
-      ap (firstOf P z 64 false) (ap sucℤ (last-is P f left) ∙ ap pos (sym (add-one (nth P (f + 63)))))
-      ∙ sym (ap (λ (b : Bool). cond b (firstOf P z left true z) (firstOf P z 64 false (pos (nth P (f + 63) + 1)))) (lt-leb left 64 (omega arith)))
+      ap (firstOf P z 64 false) (ap sucℤ (last-is P f) ∙ ap pos (sym (add-one (nth P (f + 63))))) ∙ listed-first (omega arith)
   mark false t l =
       let m = ltb-false (f + 64) (total P) t in
       let e : 64 ≡ left = omega arith in
-      ap (λ (n : ℕ). firstOf P z n true z) e
-      ∙ sym (ap (λ (b : Bool). cond b (firstOf P z left true z) (firstOf P z 64 false (pos (nth P (f + 63) + 1)))) (le-leb left 64 (omega arith)))
+      ap (λ (n : ℕ). firstOf P z n true z) e ∙ listed-all (omega arith)
 
   many : 64 ≤ left → recordBy x z (filledBy blank 0 (nthFrom P f left)) ≡ listing P z
   many l =
       ap (recordBy x z) (full-filled P f left l)
       ∙ ap (marked (fill blank 0 (nthFrom P f 64)) 64 z)
-      (ap (λ (i : ℤ). anyBy x (sucℤ i) (pos (2 ^ 63 - 1))) (last-is P f left)
+      (ap (λ (i : ℤ). anyBy x (sucℤ i) (pos (2 ^ 63 - 1))) (last-is P f)
       ∙ any-in-range-is w (pos (suc (nth P (f + 63)))) (pos (2 ^ 63 - 1))
-      ∙ ap truth.Is (more-left P f left (omega arith)))
+      ∙ ap truth.Is (more-left P f (omega arith)))
       ∙ mark (ltb (f + 64) (total P)) refl l
 
   record-is : recordBy x z (filledBy blank 0 (nthFrom P f left)) ≡ listing P z
