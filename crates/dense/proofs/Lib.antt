@@ -2,7 +2,6 @@ pub mod Digits
 pub mod Bits
 pub mod Counts
 pub mod Sets
-pub mod Nexts
 pub mod Parts
 pub mod Blocks
 pub mod Scans

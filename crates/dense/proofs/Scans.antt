@@ -1,4 +1,4 @@
--- What a look at one word shows: its share of a count, whether a range has a bit, where the next one is. Assumes nothing.
+-- What a look at one word shows: its share of a count, and whether a range has a bit. Assumes nothing.
 use mathlib.Core.Path.{_≡_, refl, sym, ap, _∙_, subst}
 use mathlib.Core.Bool.{Bool, true, false, not}
 use mathlib.Core.List.{List}
@@ -12,12 +12,10 @@ use lib.Pow.{shr-le, shr-lt}
 use mir.Syntax.{w64}
 use mir.Val.{Fits}
 use borrow.Author.Tests.{eqb-true, eqb-false, lt-ltb, le-ltb, ltb-true, ltb-false}
-use Rattle.dense.specs.declared.Found.the-variants.{At, Nothing}
-use Rattle.dense.specs.Bits.{digit, bit, bitsTo, anyIn, nextFrom}
+use Rattle.dense.specs.Bits.{digit, bit, bitsTo, anyIn}
 use Rattle.dense.proofs.Digits.{digit-over, digit-shr, ones-none, ones-zero, trailing-low, trailing-one, one-shl, shl-low, shl-none}
 use Rattle.dense.proofs.Bits.{bit-at}
 use Rattle.dense.proofs.Counts.{bits-le, bits-mono, bits-past, bits-field, bits-low, bits-high, bits-word}
-use Rattle.dense.proofs.Nexts.{next-at, next-none}
 
 ones-some : (w : ℕ) → (w ≡ 0 → ⊥) → 0 < ones w
 ones-some w n = go (ltb 0 (ones w)) refl
@@ -114,45 +112,3 @@ module _ (ws : List ℕ) where
 
   pub any-word : (i lo hi : ℕ) → i < hi / 64 → getD ws i 0 < 2 ^ 64 → (getD ws i 0 ≡ 0 → ⊥) → bitsTo ws (64 * i) ≡ bitsTo ws lo → true ≡ anyIn ws lo hi
   any-word i lo hi l h n e = any-below i lo hi l (omega (arith, bits-word ws i h, ones-some (getD ws i 0) n))
-
-  -- ---- the next bit
-
-  -- x is word i without its low l digits: its lowest set digit is the next bit
-  lowest : (i l x o : ℕ) → l < 64 → x ≡ getD ws i 0 / 2 ^ l → getD ws i 0 < 2 ^ 64 → (x ≡ 0 → ⊥) → o ≤ 64 * i + l → bitsTo ws (64 * i + l) ≡ bitsTo ws o → nextFrom ws o ≡ At (64 * i + (l + trailingZeros 64 x))
-  lowest i l x o h e g n b c =
-      let t = trailingZeros 64 x in
-      let w = getD ws i 0 in
-      let d : x < 2 ^ (64 - l) = subst (λ (y : ℕ). y < 2 ^ (64 - l)) (sym e) (shr-lt (64 - l) l (let s : 64 ≡ 64 - l + l = omega arith in subst (λ (y : ℕ). w < 2 ^ y) s g)) in
-      let f : x < 2 ^ 64 = subst (λ (y : ℕ). y < 2 ^ 64) (sym e) (lt-of-le-of-lt (shr-le w l) g) in
-      let one : digit x t ≡ 1 = trailing-one 64 x (omega arith) f .1 in
-      let k : t < 64 - l = inside x (64 - l) t d one in
-      let here : bit ws (64 * i + (l + t)) ≡ 1 = bit-at ws i (l + t) (omega arith) ∙ (sym (digit-shr w l t) ∙ (ap (λ (y : ℕ). digit y t) (sym e) ∙ one)) in
-      let low : w / 2 ^ l % 2 ^ t ≡ 0 = ap (λ (y : ℕ). y % 2 ^ t) (sym e) ∙ trailing-low 64 x in
-      next-at ws o (64 * i + (l + t)) (omega arith) here (omega (arith, bits-field ws i l t (omega arith), ap ones low, ones-zero))
-    where
-      inside : (x j t : ℕ) → x < 2 ^ j → digit x t ≡ 1 → t < j
-      inside x j t d one = go (ltb t j) refl
-        where
-          go : (b : Bool) → ltb t j ≡ b → t < j
-          go true m = ltb-true t j m
-          go false m = let z = digit-over j t d (ltb-false t j m) in absurd (omega arith)
-
-  pub next-first : (o : ℕ) → getD ws (o / 64) 0 < 2 ^ 64 → (getD ws (o / 64) 0 / 2 ^ (o % 64) ≡ 0 → ⊥) → At (o + trailingZeros 64 (getD ws (o / 64) 0 / 2 ^ (o % 64))) ≡ nextFrom ws o
-  next-first o h n =
-      let x = getD ws (o / 64) 0 / 2 ^ (o % 64) in
-      let p : 64 * (o / 64) + o % 64 ≡ o = omega arith in
-      let q : 64 * (o / 64) + (o % 64 + trailingZeros 64 x) ≡ o + trailingZeros 64 x = omega arith in
-      sym (lowest (o / 64) (o % 64) x o (omega arith) refl h n (omega arith) (ap (bitsTo ws) p) ∙ ap At q)
-
-  pub next-word : (i o : ℕ) → o / 64 < i → getD ws i 0 < 2 ^ 64 → (getD ws i 0 ≡ 0 → ⊥) → bitsTo ws (64 * i) ≡ bitsTo ws o → At (i * 64 + trailingZeros 64 (getD ws i 0)) ≡ nextFrom ws o
-  next-word i o l h n c =
-      let x = getD ws i 0 in
-      let p : 64 * i + 0 ≡ 64 * i = omega arith in
-      let q : 64 * i + (0 + trailingZeros 64 x) ≡ i * 64 + trailingZeros 64 x = omega arith in
-      sym (lowest i 0 x o (omega arith) (sym (div-one x)) h n (omega arith) (ap (bitsTo ws) p ∙ c) ∙ ap At q)
-
-  pub next-past : (i o : ℕ) → length ws ≤ i → bitsTo ws (64 * i) ≡ bitsTo ws o → Nothing ≡ nextFrom ws o
-  next-past i o l c = sym (next-none ws o (omega (arith, bits-past ws (64 * i) (omega arith))))
-
-  pub next-outside : (o : ℕ) → length ws ≤ o / 64 → Nothing ≡ nextFrom ws o
-  next-outside o l = sym (next-none ws o (omega (arith, bits-past ws o (omega arith))))

@@ -6,8 +6,6 @@ use lib.Bits.{bitOr}
 use lib.Dec.{eqb, ltb}
 use lib.ListN.{length, getD, set}
 use Rattle.sums.specs.Sums.{sumTo}
-use Rattle.dense.specs.declared.Found.{Found}
-use Rattle.dense.specs.declared.Found.the-variants.{At, Nothing}
 
 -- binary digit b of w, 0 or 1
 abbrev pub digit : ℕ → ℕ → ℕ
@@ -27,15 +25,6 @@ bitsTo ws n = sumTo (bit ws) n
 -- whether a set bit lies in lo to hi, both included: more of them below hi + 1 than below lo
 unfoldable pub anyIn : List ℕ → ℕ → ℕ → Bool
 anyIn ws lo hi = ltb (bitsTo ws lo) (bitsTo ws (hi + 1))
-
--- the first set bit of the n from o on
-unfoldable pub firstOf : List ℕ → ℕ → ℕ → Found
-firstOf ws o zero = Nothing
-firstOf ws o (suc n) = cond (isSet ws o) (At o) (firstOf ws (suc o) n)
-
--- the first set bit at o or above
-unfoldable pub nextFrom : List ℕ → ℕ → Found
-nextFrom ws o = firstOf ws o (64 * length ws - o)
 
 -- the words with the bit at o set
 unfoldable pub withBit : List ℕ → ℕ → List ℕ

@@ -7,13 +7,7 @@ ghost use mathlib.Core.Path.{_≡_};
 ghost use mathlib.Core.Bool.{not};
 ghost use Prim.Native.Nat.{_*_, _^_, _≤_, _<_};
 ghost use lib.ListN.{length};
-ghost use Rattle.dense.specs.Bits.{isSet, withBit, withRow, anyIn, nextFrom};
-
-// Where a member is, if there is one.
-pub enum Found {
-    At(u64),
-    Nothing,
-}
+ghost use Rattle.dense.specs.Bits.{isSet, withBit, withRow, anyIn};
 
 // Whether the offset is a member.
 pub fn contains(words: &[u64], off: u64) -> bool
@@ -75,28 +69,4 @@ pub fn any_in(words: &[u64], lo: u64, hi: u64) -> bool
         i += 1;
     }
     words[last] << (63 - hi % 64) != 0
-}
-
-// The first member at `from` or above.
-pub fn next(words: &[u64], from: u64) -> Found
-    requires { ⌜ length (now words) < 2 ^ 58 ⌝ }
-    ensures { λ r. ⌜ r ≡ nextFrom (now (words .entry)) from ⌝ }
-{
-    let first = (from / 64) as usize;
-    if words.len() <= first {
-        return Found::Nothing;
-    }
-    let above = words[first] >> (from % 64);
-    if above != 0 {
-        return Found::At(from + u64::trailing_zeros(above) as u64);
-    }
-    let mut i = first + 1;
-    while i < words.len() {
-        let w = words[i];
-        if w != 0 {
-            return Found::At((i as u64) * 64 + u64::trailing_zeros(w) as u64);
-        }
-        i += 1;
-    }
-    Found::Nothing
 }
