@@ -1,5 +1,6 @@
 pub mod Steps
 pub mod Readings
 pub mod SetUps
+pub mod Joins
 pub mod Spares
 pub mod Takes
