@@ -1,118 +1,128 @@
 // The elements of a set's pools, one by one: to make memory that no call made, and to see what calls left.
 use crate::say;
+use libc::STDOUT_FILENO;
+use lines::signs;
 use lines::words;
-use numbers::order;
-use numbers::place;
 
-// 2 ^ 32 - 1
-const MOST: u64 = 4294967295;
-
-// One element of 64 bits.
-fn put(out: &mut [u8], w: usize, pool: &mut [u64], i: u64, v: u64) -> usize {
-    if (pool.len() as u64) <= i {
-        return say::bad(out, w);
+// One element of 64 bits: 1 if there is such a one, else 0.
+fn put(pool: &mut [u64], i: usize, v: u64) -> u64 {
+    if i < pool.len() {
+        pool[i] = v;
+        return 1;
     }
-    place::put(pool, i, v);
-    say::ok(out, w)
+    0
 }
 
-// One element of 32 bits.
-fn put32(out: &mut [u8], w: usize, pool: &mut [u32], i: u64, v: u64) -> usize {
-    if (pool.len() as u64) <= i {
-        return say::bad(out, w);
+// One element of 32 bits, which the value has to fit.
+fn put32(pool: &mut [u32], i: usize, v: u64) -> u64 {
+    if i < pool.len() {
+        if v < 4294967296 {
+            pool[i] = v as u32;
+            return 1;
+        }
     }
-    if MOST < v {
-        return say::bad(out, w);
-    }
-    place::put32(pool, i, v as u32);
-    say::ok(out, w)
+    0
 }
 
 // `poke K slice index value`
-pub fn poke(
-    line: &[u8],
-    out: &mut [u8],
-    w: usize,
-    pages: &mut [u64],
-    rows: &mut [u32],
-    blocks: &mut [u32],
-    table: &mut [u64],
-) -> usize {
-    if !words::are_numbers(line, 2, 5) {
-        return say::bad(out, w);
-    }
-    let i = words::number_or(line, 3, 0);
+pub fn poke(line: &[u8], p: &mut [u64], r: &mut [u32], b: &mut [u32], t: &mut [u64]) {
+    let i = words::number_or(line, 3, 0) as usize;
     let v = words::number_or(line, 4, 0);
     match words::number_or(line, 2, 0) {
-        0 => put(out, w, pages, i, v),
-        1 => put32(out, w, rows, i, v),
-        2 => put32(out, w, blocks, i, v),
-        3 => put(out, w, table, i, v),
-        _ => say::bad(out, w),
+        0 => say::word(b"bad ok", put(p, i, v)),
+        1 => say::word(b"bad ok", put32(r, i, v)),
+        2 => say::word(b"bad ok", put32(b, i, v)),
+        3 => say::word(b"bad ok", put(t, i, v)),
+        _ => say::text(b"bad\n"),
     }
 }
 
-// How much of a dump is shown: how many bytes wait, and whether its line has an element yet.
-struct Shown {
-    w: usize,
-    empty: bool,
-}
-
-// What stands before an element: a space, unless it is the line's first.
-fn before(out: &mut [u8], d: Shown) -> usize {
-    if d.empty {
-        return d.w;
+// Some bytes more, after the w that `out` has. It has room for every element, so that a dump is one write.
+fn text(out: &mut [u8], w: usize, bytes: &[u8]) -> usize {
+    let mut now = w;
+    let mut i: usize = 0;
+    while i < bytes.len() {
+        if out.len() <= now {
+            return now;
+        }
+        out[now] = bytes[i];
+        now += 1;
+        i += 1;
     }
-    say::text(out, d.w, b" ")
+    now
 }
 
-// An element that is not 0.
-fn element(out: &mut [u8], d: Shown, letter: u8, i: usize, v: u64) -> Shown {
+fn number(out: &mut [u8], w: usize, before: &[u8], n: u64) -> usize {
+    let mut digits = [0u8; 20];
+    let k = io::decimal(n, &mut digits);
+    let a = text(out, w, before);
+    text(out, a, &digits[..k])
+}
+
+// An element that is not 0, as `p7=12`.
+fn element(out: &mut [u8], w: usize, name: &[u8], i: usize, is: &[u8], v: u64) -> usize {
     if v == 0 {
-        return d;
+        return w;
     }
-    let a = before(out, d);
-    let b = say::text(out, a, &[letter]);
-    let c = say::number(out, b, i as u64);
-    let e = say::text(out, c, b"=");
-    Shown {
-        w: say::number(out, e, v),
-        empty: false,
-    }
+    let a = number(out, w, name, i as u64);
+    number(out, a, is, v)
 }
 
-fn elements(out: &mut [u8], d: Shown, letter: u8, pool: &[u64]) -> Shown {
-    let mut now = d;
+fn elements(out: &mut [u8], w: usize, name: &[u8], pool: &[u64]) -> usize {
+    let mut now = w;
     let mut i: usize = 0;
     while i < pool.len() {
-        now = element(out, now, letter, i, pool[i]);
+        now = element(out, now, name, i, b"=", pool[i]);
         i += 1;
     }
     now
 }
 
-fn elements32(out: &mut [u8], d: Shown, letter: u8, pool: &[u32]) -> Shown {
-    let mut now = d;
+fn elements32(out: &mut [u8], w: usize, name: &[u8], pool: &[u32]) -> usize {
+    let mut now = w;
     let mut i: usize = 0;
     while i < pool.len() {
-        now = element(out, now, letter, i, order::wide(pool[i]));
+        now = element(out, now, name, i, b"=", pool[i] as u64);
         i += 1;
     }
     now
+}
+
+fn boundary(out: &mut [u8], w: usize, i: usize, z: i64) -> usize {
+    if z < 0 {
+        return element(out, w, b" c", i, b"=-", signs::magnitude(z));
+    }
+    element(out, w, b" c", i, b"=", signs::magnitude(z))
+}
+
+fn boundaries(out: &mut [u8], w: usize, c: &[i64]) -> usize {
+    let mut now = w;
+    let mut i: usize = 0;
+    while i < c.len() {
+        now = boundary(out, now, i, c[i]);
+        i += 1;
+    }
+    now
+}
+
+// A line without the space that stands before its first element.
+fn shown(out: &[u8], w: usize) {
+    if 0 < w {
+        if w <= out.len() {
+            io::write_all(STDOUT_FILENO, &out[1..w]);
+        }
+    }
+    say::text(b"\n");
 }
 
 // `dump K`
-pub fn dump(
-    out: &mut [u8],
-    w: usize,
-    pages: &[u64],
-    rows: &[u32],
-    blocks: &[u32],
-    table: &[u64],
-) -> usize {
-    let a = elements(out, Shown { w, empty: true }, b'p', pages);
-    let b = elements32(out, a, b'r', rows);
-    let c = elements32(out, b, b'b', blocks);
-    let d = elements(out, c, b't', table);
-    say::newline(out, d.w)
+pub fn dump(p: &[u64], r: &[u32], b: &[u32], t: &[u64], c: &[i64]) {
+    let mut space = [0u8; 409600];
+    let out: &mut [u8] = &mut space;
+    let x = elements(out, 0, b" p", p);
+    let y = elements32(out, x, b" r", r);
+    let z = elements32(out, y, b" b", b);
+    let w = elements(out, z, b" t", t);
+    let all = boundaries(out, w, c);
+    shown(out, all);
 }

@@ -1,44 +1,45 @@
--- Each turn uses up one element, and the slice keeps its length. Assumes nothing.
-use mathlib.Core.Path.{_≡_, refl}
+-- Each turn uses up one boundary. Assumes nothing.
 use Prim.Native.Nat.{_-_}
 use borrow.Author.Needs.{needs}
-use native.Mathlib.Omega.{arith}
 use lib.ListN.{length}
 use Rattle.replay.proofs.say.boundaries.Statement.{statement}
 use Rattle.replay.proofs.say.boundaries.Tie as tie
 
 abbrev Inv-loop : tie.InvT-loop
-Inv-loop out₀ w bounds n now₀ k₀ out now k = length out ≡ length out₀
+Inv-loop c n i₀ t4 i = Unit {0}
 
 abbrev μ-loop : tie.MeasureT-loop
-μ-loop out₀ w bounds n now₀ k₀ out now k = length bounds - k
+μ-loop c n i₀ t4 i = length c - i
 
 loop-holds : tie.Need-loop-holds Inv-loop μ-loop
-loop-holds c = refl
+loop-holds c = search needs
 
-mul-boundary : tie.Need-mul-boundary Inv-loop μ-loop
-mul-boundary c = search needs
+add-if1 : tie.Need-add-if1 Inv-loop μ-loop
+add-if1 c = search needs
 
-shared-slice-copy-out-boundary : tie.Need-shared-slice-copy-out-boundary Inv-loop μ-loop
-shared-slice-copy-out-boundary c = omega arith
+slice-aggregate-id : tie.Need-slice-aggregate-id Inv-loop μ-loop
+slice-aggregate-id c = search needs
 
-boundary-requires : tie.Need-boundary-requires Inv-loop μ-loop
-boundary-requires c κs = tt
+mul-id : tie.Need-mul-id Inv-loop μ-loop
+mul-id c = search needs
 
-add-k : tie.Need-add-k Inv-loop μ-loop
-add-k c = omega arith
+shared-slice-copy-out-id : tie.Need-shared-slice-copy-out-id Inv-loop μ-loop
+shared-slice-copy-out-id c = search needs
+
+id-requires : tie.Need-id-requires Inv-loop μ-loop
+id-requires c κs = search needs
+
+add-i : tie.Need-add-i Inv-loop μ-loop
+add-i c = search needs
 
 loop-less : tie.Need-loop-less Inv-loop μ-loop
-loop-less c = omega arith
+loop-less c = search needs
 
 loop-again : tie.Need-loop-again Inv-loop μ-loop
 loop-again c = search needs
 
-same-length : tie.Need-same-length Inv-loop μ-loop
-same-length c = search needs
-
 returns : tie.Need-returns Inv-loop μ-loop
-returns c = tt
+returns c = search needs
 
 pub boundaries-spec : {M : Type 1} → statement M
 boundaries-spec =
@@ -47,11 +48,12 @@ boundaries-spec =
     Inv-loop
     μ-loop
     loop-holds
-    mul-boundary
-    shared-slice-copy-out-boundary
-    boundary-requires
-    add-k
+    add-if1
+    slice-aggregate-id
+    mul-id
+    shared-slice-copy-out-id
+    id-requires
+    add-i
     loop-less
     loop-again
-    same-length
     returns)
