@@ -1,9 +1,10 @@
 -- A part of a pool that a word names lies inside its pool and is as wide as the sizes say. Assumes nothing.
-use mathlib.Core.Path.{_≡_, sym}
+use mathlib.Core.Path.{_≡_, sym, _∙_, ap}
 use mathlib.Core.List.{List}
-use Prim.Native.Nat.{ℕ, _+_, _-_, _^_, _≤_}
+use Prim.Native.Nat.{ℕ, _+_, _-_, _*_, _^_, _≤_, _<_}
 use native.Mathlib.Omega.{arith}
 use lib.ListN.{length, getD, take, drop, length-take, length-drop}
+use Rattle.numbers.proofs.Powers.{powers}
 use Rattle.layout.specs.Mem.{Mem}
 use Rattle.layout.specs.declared.find.Spot.the-variants.{Row, Page}
 use Rattle.calls.specs.Reading.{spotBy}
@@ -46,3 +47,11 @@ span a n = omega arith
 
 pub length-part : (xs : List ℕ) (a n : ℕ) → a + n ≤ length xs → length (take (a + n - a) (drop a xs)) ≡ n
 length-part xs a n h = simp (length-take, length-drop) (omega arith)
+
+-- an offset of a chunk is a bit of its page
+pub offset-in : (pages : List ℕ) (s t a n o : ℕ) → 9 ≤ s → s ≤ 25 → o < 2 ^ s → s ≡ t → InPages t (length pages) a n → o < 64 * length (take (a + n - a) (drop a pages))
+offset-in pages s t a n o l h k g i =
+    let p = powers s l h in
+    let e = length-part pages a n (i .inside) in
+    let w : n ≡ 2 ^ (s - 6) = i .wide ∙ ap (λ (j : ℕ). 2 ^ (j - 6)) (sym g) in
+    omega (arith, p .words)

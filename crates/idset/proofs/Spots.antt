@@ -1,8 +1,7 @@
 -- The part of a pool that holds a chunk, and membership at it. Assumes nothing.
-use mathlib.Core.Path.{_≡_, sym, _∙_, ap}
-use mathlib.Core.List.{List}
+use mathlib.Core.Path.{_≡_, _∙_, ap}
 use mathlib.Core.Bool.{Bool}
-use Prim.Native.Nat.{ℕ, _+_, _-_, _*_, _^_, _≤_, _<_}
+use Prim.Native.Nat.{ℕ, _+_, _-_}
 use native.Mathlib.Omega.{arith}
 use lib.ListN.{length, getD, take, drop}
 use Rattle.layout.specs.Mem.{Mem}
@@ -14,9 +13,8 @@ use Rattle.document.specs.declared.answer.Truth.the-variants as truth
 use Rattle.sparse.specs.Search.{searchIn}
 use Rattle.sparse.specs.declared.Place as sparse
 use Rattle.dense.specs.Bits.{isSet}
-use Rattle.numbers.proofs.Powers.{powers}
 use Rattle.calls.specs.Reading.{spotBy, spotIf, isFound, hasAt}
-use Rattle.entries.proofs.Spots.{InRows, InPages, spot-row, spot-page, span, length-part}
+use Rattle.entries.proofs.Spots.{InRows, InPages, spot-row, spot-page, span}
 
 module _ (x : Mem) where
   pub row-inside : (w : Word) (a n l : ℕ) → spotIf x w ≡ Row a n l → InRows (getD (x .table) 1 0) (length (x .rows)) a n l
@@ -30,14 +28,6 @@ module _ (x : Mem) where
   -- the part that chunk c's word names
   pub spot-word : (w : ℕ) (v : Word) (q : Spot) → word.Is w ≡ v → q ≡ spotBy x w → q ≡ spotIf x v
   spot-word w v q g h = h ∙ ap (spotIf x) g
-
--- an offset of a chunk is a bit of its page
-pub offset-in : (pages : List ℕ) (s t a n o : ℕ) → 9 ≤ s → s ≤ 25 → o < 2 ^ s → s ≡ t → InPages t (length pages) a n → o < 64 * length (take (a + n - a) (drop a pages))
-offset-in pages s t a n o l h k g i =
-    let p = powers s l h in
-    let e = length-part pages a n (i .inside) in
-    let w : n ≡ 2 ^ (s - 6) = i .wide ∙ ap (λ (j : ℕ). 2 ^ (j - 6)) (sym g) in
-    omega (arith, p .words)
 
 -- ---- membership at a part
 
