@@ -7,3 +7,5 @@ pub mod Parts
 pub mod Blocks
 pub mod Scans
 pub mod Turns
+pub mod Lowest
+pub mod Listed

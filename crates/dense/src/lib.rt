@@ -1,5 +1,6 @@
 // Dense chunks: bit maps in lent words of 64 bits, one bit for each offset.
 pub mod block;
+pub mod list;
 pub mod part;
 pub mod words;
 

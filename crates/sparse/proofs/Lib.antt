@@ -5,3 +5,4 @@ pub mod Edits
 pub mod Inserts
 pub mod Merges
 pub mod Unions
+pub mod Listed

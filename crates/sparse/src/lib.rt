@@ -1,4 +1,6 @@
 // Sparse rows: sorted lists of u32 offsets in lent slices, or in parts of a pool.
+pub mod list;
+
 ghost use mathlib.Core.Path.{_≡_};
 ghost use Prim.Native.Nat.{_+_, _≤_, _<_};
 ghost use lib.ListN.{length};

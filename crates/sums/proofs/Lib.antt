@@ -11,3 +11,4 @@ pub mod Cuttings
 pub mod Theorems
 pub mod Listed
 pub mod Cases
+pub mod Filling
