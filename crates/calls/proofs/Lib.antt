@@ -1,6 +1,11 @@
 pub mod Outcomes
 pub mod Readings
 pub mod Counting
+pub mod Clips
+pub mod RangeEntries
+pub mod Ranges
+pub mod IterationEntries
+pub mod Iterations
 pub mod Refusals
 pub mod FirstFree
 pub mod Slots

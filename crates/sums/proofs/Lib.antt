@@ -3,6 +3,7 @@ pub mod Counts
 pub mod Rules
 pub mod Least
 pub mod Ranks
+pub mod Members
 pub mod Rounding
 pub mod Parts
 pub mod Boundaries
