@@ -16,7 +16,7 @@ use Rattle.calls.specs.Range.{anyBy}
 use Rattle.scan.proofs.Ranges.{any-empty}
 
 -- 2 ^ 63 - 1 as a word
-abbrev largest : ℕ
+abbrev pub largest : ℕ
 largest = 9223372036854775807
 
 suc-fits : (z : ℤ) → SFits w64 z → (ofZ w64 z ≡ largest → ⊥) → SFits w64 (sucℤ z)

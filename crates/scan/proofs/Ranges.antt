@@ -97,10 +97,9 @@ module _ (x : Mem) (lo hi i n : ℕ) where
 
 -- ---- all entries from the low end's chunk on
 
-pub from-is : (x : Mem) (lo hi s c e n : ℕ) → s ≡ getD (x .table) 0 0 → c ≡ lo / 2 ^ s → e ≡ entryFrom x c → n ≡ entriesOf x → anyRun x lo hi (n - e) e ≡ anyFrom x lo hi
+pub from-is : (x : Mem) (lo hi e n : ℕ) → e ≡ entryFrom x (lo / top (head x)) → n ≡ entriesOf x → anyRun x lo hi (n - e) e ≡ anyFrom x lo hi
 unfolding anyFrom
-from-is x lo hi s c e n es ec ee en =
-    ap₂ (λ (k i : ℕ). anyRun x lo hi (k - i) i) en (ee ∙ ap (entryFrom x) (ec ∙ ap (λ (k : ℕ). lo / 2 ^ k) es))
+from-is x lo hi e n ee en = ap₂ (λ (k i : ℕ). anyRun x lo hi (k - i) i) en ee
 
 -- ---- the two ends
 

@@ -122,8 +122,7 @@ fn any_from(pages: &[u64], rows: &[u32], blocks: &[u32], table: &[u64], lo: u64,
     ensures { λ r. ⌜ (let x = memOf (pages .entry) (rows .entry) (blocks .entry) (table .entry) in
         r ≡ anyFrom x lo hi) ⌝ }
 {
-    let c = power::high(lo, element::at(table, 0));
-    let e = entries::from(table, c);
+    let e = clip::first(table, lo);
     any_run(
         pages,
         rows,
