@@ -1,10 +1,9 @@
--- A part of a pool that a word names lies inside its pool and is as wide as the sizes say. Assumes nothing.
-use mathlib.Core.Path.{_≡_, sym, _∙_, ap}
-use mathlib.Core.List.{List}
+-- The part of a pool that holds a chunk, and membership at it. Assumes nothing.
+use mathlib.Core.Path.{_≡_, _∙_, ap}
 use mathlib.Core.Bool.{Bool}
-use Prim.Native.Nat.{ℕ, _+_, _-_, _*_, _^_, _≤_, _<_}
+use Prim.Native.Nat.{ℕ, _+_, _-_}
 use native.Mathlib.Omega.{arith}
-use lib.ListN.{length, getD, take, drop, length-take, length-drop}
+use lib.ListN.{length, getD, take, drop}
 use Rattle.layout.specs.Mem.{Mem}
 use Rattle.layout.specs.declared.find.Word.{Word}
 use Rattle.layout.specs.declared.find.Word.the-variants as word
@@ -14,67 +13,21 @@ use Rattle.document.specs.declared.answer.Truth.the-variants as truth
 use Rattle.sparse.specs.Search.{searchIn}
 use Rattle.sparse.specs.declared.Place as sparse
 use Rattle.dense.specs.Bits.{isSet}
-use Rattle.numbers.proofs.Powers.{powers}
 use Rattle.calls.specs.Reading.{spotBy, spotIf, isFound, hasAt}
-use Rattle.calls.proofs.Places.{row-at, page-at, row-in, page-in}
-
--- n places from a on, of which the first l are taken
-pub record InRows (m rows a n l : ℕ) : Type 0 where
-  pub inside : a + n ≤ rows
-  pub wide : n ≡ m
-  pub short : l ≤ n
-  pub small : n ≤ 1024
-
--- n words from a on
-pub record InPages (s pages a n : ℕ) : Type 0 where
-  pub inside : a + n ≤ pages
-  pub wide : n ≡ 2 ^ (s - 6)
+use Rattle.entries.proofs.Spots.{InRows, InPages, spot-row, spot-page, span}
 
 module _ (x : Mem) where
-  pub spot-row : (w a n l : ℕ) → spotBy x w ≡ Row a n l → InRows (getD (x .table) 1 0) (length (x .rows)) a n l
-  spot-row w a n l e =
-      let p = row-at x w a n l (sym e) in
-      let q = row-in x (p .row) l (p .names .good) in
-      record {
-        inside = omega (arith, p .start, p .long, q .fits);
-        wide = p .long;
-        short = omega (arith, p .long, q .short);
-        small = omega (arith, p .long, q .small);
-      }
-
-  pub spot-page : (w a n : ℕ) → spotBy x w ≡ Page a n → InPages (getD (x .table) 0 0) (length (x .pages)) a n
-  spot-page w a n e =
-      let p = page-at x w a n (sym e) in
-      let q = page-in x (p .page) (p .names .good) in
-      record { inside = omega (arith, p .start, p .long, q .fits); wide = p .long }
-
   pub row-inside : (w : Word) (a n l : ℕ) → spotIf x w ≡ Row a n l → InRows (getD (x .table) 1 0) (length (x .rows)) a n l
-  row-inside (word.Is w) a n l e = spot-row w a n l e
+  row-inside (word.Is w) a n l e = spot-row x w a n l e
   row-inside word.Bad a n l e = absurd (let z : _≡_ {A = ℕ} 0 1 = cc in omega arith)
 
   pub page-inside : (w : Word) (a n : ℕ) → spotIf x w ≡ Page a n → InPages (getD (x .table) 0 0) (length (x .pages)) a n
-  page-inside (word.Is w) a n e = spot-page w a n e
+  page-inside (word.Is w) a n e = spot-page x w a n e
   page-inside word.Bad a n e = absurd (let z : _≡_ {A = ℕ} 0 1 = cc in omega arith)
 
   -- the part that chunk c's word names
   pub spot-word : (w : ℕ) (v : Word) (q : Spot) → word.Is w ≡ v → q ≡ spotBy x w → q ≡ spotIf x v
   spot-word w v q g h = h ∙ ap (spotIf x) g
-
--- ---- parts
-
-pub span : (a n : ℕ) → a + n - a ≡ n
-span a n = omega arith
-
-pub length-part : (xs : List ℕ) (a n : ℕ) → a + n ≤ length xs → length (take (a + n - a) (drop a xs)) ≡ n
-length-part xs a n h = simp (length-take, length-drop) (omega arith)
-
--- an offset of a chunk is a bit of its page
-pub offset-in : (pages : List ℕ) (s t a n o : ℕ) → 9 ≤ s → s ≤ 25 → o < 2 ^ s → s ≡ t → InPages t (length pages) a n → o < 64 * length (take (a + n - a) (drop a pages))
-offset-in pages s t a n o l h k g i =
-    let p = powers s l h in
-    let e = length-part pages a n (i .inside) in
-    let w : n ≡ 2 ^ (s - 6) = i .wide ∙ ap (λ (j : ℕ). 2 ^ (j - 6)) (sym g) in
-    omega (arith, p .words)
 
 -- ---- membership at a part
 

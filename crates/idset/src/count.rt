@@ -2,7 +2,7 @@
 ghost use Rattle.layout.specs.Mem.{memOf};
 ghost use Rattle.document.specs.Calls.{len, is-empty, has-any, chunk-count, whether, many};
 ghost use Rattle.contracts.specs.Does.{Answers};
-use crate::entries;
+use crate::parts;
 use document::answer::Amount;
 use document::answer::Truth;
 use layout::entry;
@@ -19,7 +19,7 @@ pub fn len(pages: &[u64], rows: &[u32], blocks: &[u32], table: &[u64]) -> Amount
     let mut sum: u64 = 0;
     let mut e: u64 = 0;
     while e < n {
-        let p = entries::part_at(pages, rows, blocks, table, e);
+        let p = parts::part_at(pages, rows, blocks, table, e);
         good = good & p.good;
         sum += p.size;
         e += 1;
@@ -42,7 +42,7 @@ pub fn is_empty(pages: &[u64], rows: &[u32], blocks: &[u32], table: &[u64]) -> T
     let mut none = true;
     let mut e: u64 = 0;
     while e < n {
-        let p = entries::vacancy_at(pages, rows, blocks, table, e);
+        let p = parts::vacancy_at(pages, rows, blocks, table, e);
         good = good & p.good;
         none = none & p.none;
         e += 1;

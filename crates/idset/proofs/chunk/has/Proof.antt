@@ -5,7 +5,8 @@ use lib.ListN.{length, getD}
 use Rattle.numbers.proofs.Powers.{powers}
 use Rattle.layout.specs.Mem.{Mem, memOf}
 use Rattle.layout.specs.Short.{wordIn}
-use Rattle.idset.proofs.Spots.{InRows, InPages, row-inside, page-inside, length-part, offset-in, has-spot, has-row, has-page}
+use Rattle.entries.proofs.Spots.{InRows, InPages, length-part, offset-in}
+use Rattle.idset.proofs.Spots.{row-inside, page-inside, has-spot, has-row, has-page}
 use borrow.Author.Needs.{needs}
 use Rattle.idset.proofs.chunk.has.Statement.{statement}
 use Rattle.idset.proofs.chunk.has.Tie as tie

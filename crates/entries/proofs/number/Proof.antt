@@ -2,10 +2,10 @@
 use mathlib.Core.Path.{ap₂}
 use Prim.Native.Nat.{_+_, _≤_}
 use native.Mathlib.Omega.{arith}
-use Rattle.idset.proofs.Runs.{run, number-small}
+use Rattle.entries.proofs.Runs.{run, number-small}
 use borrow.Author.Needs.{needs}
-use Rattle.idset.proofs.entries.number.Statement.{statement}
-use Rattle.idset.proofs.entries.number.Tie as tie
+use Rattle.entries.proofs.number.Statement.{statement}
+use Rattle.entries.proofs.number.Tie as tie
 
 small : (c : tie.After-at2) → (c .before .at .result ≤ 262144) × (c .at2 .result ≤ 65536)
 small c = number-small (c .before .before .before .args .table .now) _ _ (run _ (c .before .before .before .pre)) (c .before .at .ensures) (c .at2 .ensures)

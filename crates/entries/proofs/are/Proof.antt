@@ -1,8 +1,8 @@
 -- The shift, and that the entries lie inside the table. Assumes nothing.
-use Rattle.idset.proofs.Runs.{entries-are}
+use Rattle.entries.proofs.Runs.{entries-are}
 use borrow.Author.Needs.{needs}
-use Rattle.idset.proofs.entries.are.Statement.{statement}
-use Rattle.idset.proofs.entries.are.Tie as tie
+use Rattle.entries.proofs.are.Statement.{statement}
+use Rattle.entries.proofs.are.Tie as tie
 
 at-requires : tie.Need-at-requires
 at-requires c κs = search needs

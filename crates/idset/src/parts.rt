@@ -1,18 +1,12 @@
-// The entries one by one: whether they lie in the table, and the part that each names.
+// The members of the entries one by one.
 ghost use mathlib.Core.Path.{_≡_};
 ghost use mathlib.Core.Bool.{true};
 ghost use Prim.Native.Nat.{_≤_};
 ghost use lib.Dec.{eqb};
 ghost use Rattle.layout.specs.Mem.{memOf};
-ghost use Rattle.layout.specs.Sizes.{headerAt};
-ghost use Rattle.layout.specs.Entries.{entries};
-ghost use Rattle.calls.specs.Reading.{spotBy};
-ghost use Rattle.calls.specs.Counts.{entriesOk, wordBy, goodAt, sizeBy};
+ghost use Rattle.calls.specs.Counts.{entriesOk, goodAt, sizeBy};
 use dense::words;
-use layout::entry;
-use layout::find;
 use layout::find::Spot;
-use numbers::element;
 
 // Whether an entry's part is inside its pool, and its members.
 pub struct Part {
@@ -26,43 +20,13 @@ pub struct Vacancy {
     pub none: bool,
 }
 
-// The entries are within the sizes and lie inside the table.
-pub fn are(table: &[u64]) -> bool
-    ensures { λ b. ⌜ b ≡ entriesOk (now (table .entry)) ⌝ }
-{
-    let s = element::at(table, 0);
-    (9 <= s) & (s <= 25) & find::entries_in(table, element::at(table, 2))
-}
-
-// How many there are.
-pub fn number(table: &[u64]) -> u64
-    requires { ⌜ entriesOk (now table) ≡ true ⌝ }
-    ensures { λ n. ⌜ (n ≡ entries (headerAt (now (table .entry))) (now (table .entry))) × (n ≤ 327680) ⌝ }
-{
-    element::at(table, 2) + element::at(table, 7)
-}
-
-// The part that entry e names.
-pub fn spot_at(pages: &[u64], rows: &[u32], blocks: &[u32], table: &[u64], e: u64) -> Spot
-    requires { ⌜ (entriesOk (now table) ≡ true) × (e ≤ 327680) ⌝ }
-    ensures { λ q. ⌜ (let x = memOf (pages .entry) (rows .entry) (blocks .entry) (table .entry) in
-        q ≡ spotBy x (wordBy x e)) ⌝ }
-{
-    find::spot_of(
-        table,
-        pages.len() as u64,
-        rows.len() as u64,
-        entry::word_by(table, e),
-    )
-}
-
 // The members of entry e.
 pub fn part_at(pages: &[u64], rows: &[u32], blocks: &[u32], table: &[u64], e: u64) -> Part
     requires { ⌜ (entriesOk (now table) ≡ true) × (e ≤ 327680) ⌝ }
     ensures { λ p. ⌜ (let x = memOf (pages .entry) (rows .entry) (blocks .entry) (table .entry) in
         (p .good ≡ goodAt x e) × (p .size ≡ sizeBy x e)) ⌝ }
 {
-    match spot_at(pages, rows, blocks, table, e) {
+    match entries::spot_at(pages, rows, blocks, table, e) {
         Spot::Nowhere => Part {
             good: true,
             size: 0,
@@ -91,7 +55,7 @@ pub fn vacancy_at(pages: &[u64], rows: &[u32], blocks: &[u32], table: &[u64], e:
     ensures { λ p. ⌜ (let x = memOf (pages .entry) (rows .entry) (blocks .entry) (table .entry) in
         (p .good ≡ goodAt x e) × (p .none ≡ eqb (sizeBy x e) 0)) ⌝ }
 {
-    match spot_at(pages, rows, blocks, table, e) {
+    match entries::spot_at(pages, rows, blocks, table, e) {
         Spot::Nowhere => Vacancy {
             good: true,
             none: true,

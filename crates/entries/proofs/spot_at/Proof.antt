@@ -1,9 +1,9 @@
 -- The part that the word of entry e names. Assumes nothing.
 use Rattle.layout.specs.Mem.{Mem, memOf}
-use Rattle.idset.proofs.Runs.{run, spot-entry}
+use Rattle.entries.proofs.Runs.{run, spot-entry}
 use borrow.Author.Needs.{needs}
-use Rattle.idset.proofs.entries.spot_at.Statement.{statement}
-use Rattle.idset.proofs.entries.spot_at.Tie as tie
+use Rattle.entries.proofs.spot_at.Statement.{statement}
+use Rattle.entries.proofs.spot_at.Tie as tie
 
 abbrev memory : tie.Start → Mem
 memory c = memOf (c .args .pages) (c .args .rows) (c .args .blocks) (c .args .table)

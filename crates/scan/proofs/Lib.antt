@@ -1,0 +1,5 @@
+pub mod Clips
+pub mod Ranges
+pub mod Nexts
+pub mod Fills
+pub mod Records
