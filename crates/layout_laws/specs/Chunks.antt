@@ -1,7 +1,7 @@
 -- What is said of one chunk, by its place: its members, its kind as a yes or no.
-use Prim.Native.Nat.{ℕ, _+_, _*_}
+use Prim.Native.Nat.{ℕ, _+_}
 use mathlib.Core.List.{List}
-use mathlib.Core.Bool.{Bool, true, false, cond}
+use mathlib.Core.Bool.{Bool, false, cond}
 use lib.ListN.{take, drop}
 use lib.Dec.{ltb}
 use Rattle.sums.specs.Ids.{count}
@@ -12,7 +12,6 @@ use Rattle.document.specs.Sizes.{top}
 use Rattle.layout.specs.Sizes.{overStart, head, overCount, totalAt}
 use Rattle.layout.specs.Places.{rowPart, pagePart}
 use Rattle.layout.specs.Entries.{entries, prefixAt, placeOf}
-use Rattle.document.specs.State.{Kind, absent, sparse, dense}
 use Rattle.layout.specs.Meaning.{offsets}
 use Rattle.layout.specs.Short.{overPlace}
 use Rattle.document.specs.declared.sizes.Sizes.{Sizes}
