@@ -5,7 +5,6 @@ use mathlib.Core.Bool.{Bool, true, cond, _&&_}
 use Prim.Native.Nat.{ℕ, _+_, _≤_, _<_}
 use native.Mathlib.Omega.{arith}
 use lib.Dec.{leb}
-use lib.ListN.{getD}
 use borrow.Author.Tests.{leb-true, lt-ltb, le-ltb}
 use Rattle.sums.proofs.Rules.{both}
 use Rattle.document.specs.declared.sizes.Sizes.{Sizes}
@@ -21,31 +20,31 @@ use Rattle.calls.specs.Range.{entryFrom}
 -- ---- sizes that let every entry be read
 
 pub record Run (t : List ℕ) : Type 0 where
-  pub low : 9 ≤ getD t 0 0
-  pub high : getD t 0 0 ≤ 25
-  pub direct : getD t 2 0 ≤ 262144
+  pub low : 9 ≤ headerAt t .s
+  pub high : headerAt t .s ≤ 25
+  pub direct : headerAt t .d ≤ 262144
   pub over : overCount t ≤ 65536
 
 pub run : (t : List ℕ) → entriesOk t ≡ true → Run t
 run t h =
-    let a = both (shiftOk t) (entriesIn t (getD t 2 0)) h in
-    let d = both (leb 9 (getD t 0 0)) (leb (getD t 0 0) 25) (a .0) in
-    let k = entries-are-in t (getD t 2 0) (a .1) in
+    let a = both (shiftOk t) (entriesIn t (headerAt t .d)) h in
+    let d = both (leb 9 (headerAt t .s)) (leb (headerAt t .s) 25) (a .0) in
+    let k = entries-are-in t (headerAt t .d) (a .1) in
     record {
-      low = leb-true 9 (getD t 0 0) (d .0);
-      high = leb-true (getD t 0 0) 25 (d .1);
+      low = leb-true 9 (headerAt t .s) (d .0);
+      high = leb-true (headerAt t .s) 25 (d .1);
       direct = k .direct;
       over = k .over;
     }
 
-pub number-small : (t : List ℕ) (d n : ℕ) → Run t → d ≡ getD t 2 0 → n ≡ overCount t → (d ≤ 262144) × (n ≤ 65536)
+pub number-small : (t : List ℕ) (d n : ℕ) → Run t → d ≡ headerAt t .d → n ≡ overCount t → (d ≤ 262144) × (n ≤ 65536)
 number-small t d n r e f = let l = r .direct in let h = r .over in (omega (arith, e), omega (arith, f))
 
 pub from-small : (t : List ℕ) (h : Sizes) → Run t → h ≡ headerAt t → (h .d ≤ 262144) × (overCount t ≤ 65536)
 from-small t h r e = (omega (arith, r .direct, ap (λ (g : Sizes). g .d) e), r .over)
 
 -- the test, on what was read
-pub entries-are : (t : List ℕ) (s d : ℕ) (b : Bool) → s ≡ getD t 0 0 → d ≡ getD t 2 0 → b ≡ entriesIn t d → (leb 9 s && leb s 25 && b) ≡ entriesOk t
+pub entries-are : (t : List ℕ) (s d : ℕ) (b : Bool) → s ≡ headerAt t .s → d ≡ headerAt t .d → b ≡ entriesIn t d → (leb 9 s && leb s 25 && b) ≡ entriesOk t
 entries-are t s d b es ed eb = ap₂ (λ (i : ℕ) (c : Bool). leb 9 i && leb i 25 && c) es (eb ∙ ap (entriesIn t) ed)
 
 -- ---- the first entry for chunk c

@@ -13,14 +13,13 @@ use layout::entry;
 use layout::find;
 use layout::find::Spot;
 use layout::head;
-use numbers::place as element;
 
 // They are within the sizes and lie inside the table.
 pub fn are(table: &[u64]) -> bool
     ensures { λ b. ⌜ b ≡ entriesOk (now (table .entry)) ⌝ }
 {
-    let s = element::at(table, 0);
-    (9 <= s) & (s <= 25) & find::entries_in(table, element::at(table, 2))
+    let s = head::shift(table);
+    (9 <= s) & (s <= 25) & find::entries_in(table, head::direct(table))
 }
 
 // How many there are.
@@ -28,7 +27,7 @@ pub fn number(table: &[u64]) -> u64
     requires { ⌜ entriesOk (now table) ≡ true ⌝ }
     ensures { λ n. ⌜ (n ≡ entries (headerAt (now (table .entry))) (now (table .entry))) × (n ≤ 327680) ⌝ }
 {
-    element::at(table, 2) + element::at(table, 7)
+    head::direct(table) + head::over_count(table)
 }
 
 // The first whose chunk id is not below c: of a direct chunk its own, past them by search. What else memory holds is all one.
@@ -57,10 +56,5 @@ pub fn spot_at(pages: &[u64], rows: &[u32], blocks: &[u32], table: &[u64], e: u6
     ensures { λ q. ⌜ (let x = memOf (pages .entry) (rows .entry) (blocks .entry) (table .entry) in
         q ≡ spotBy x (wordBy x e)) ⌝ }
 {
-    find::spot_of(
-        table,
-        pages.len() as u64,
-        rows.len() as u64,
-        entry::word_by(table, e),
-    )
+    find::spot_of(pages, rows, table, entry::word_by(table, e))
 }

@@ -16,7 +16,8 @@ use Rattle.layout.specs.declared.find.Spot.the-variants.{Nowhere, Row, Page, Ba
 use Rattle.calls.specs.Reading.{spotBy}
 use Rattle.calls.specs.Counts.{wordBy, isGood, sizeIn, goodAt, sizeBy}
 use Rattle.entries.proofs.Runs.{Run}
-use Rattle.entries.proofs.Spots.{InPages, spot-row, spot-page, span, length-part}
+use Rattle.layout.proofs.Lent.{span, length-lent}
+use Rattle.calls.proofs.Spots.{InPages, spot-row, spot-page}
 
 zero-not : (k : ℕ) → not (ltb 0 k) ≡ eqb k 0
 zero-not zero = refl
@@ -43,12 +44,12 @@ module _ (x : Mem) (e : ℕ) where
     none-is = ap (λ (k : ℕ). eqb k 0) size-is
 
   module _ (a n : ℕ) (f : Page a n ≡ spotBy x (wordBy x e)) where
-    pub page-here : InPages (getD (x .table) 0 0) (length (x .pages)) a n
+    pub page-here : InPages (head x .s) (length (x .pages)) a n
     page-here = spot-page x (wordBy x e) a n (sym f)
 
     pub page-size : (k : ℕ) → k ≡ bitsTo (take (a + n - a) (drop a (x .pages))) (64 * length (take (a + n - a) (drop a (x .pages)))) → k ≡ sizeBy x e
     page-size k g =
-        g ∙ (ap₂ (λ (i j : ℕ). bitsTo (take i (drop a (x .pages))) (64 * j)) (span a n) (length-part (x .pages) a n (page-here .inside)) ∙ size-is (Page a n) f)
+        g ∙ (ap₂ (λ (i j : ℕ). bitsTo (take i (drop a (x .pages))) (64 * j)) (span a n) (length-lent (x .pages) a n (page-here .inside)) ∙ size-is (Page a n) f)
 
     pub page-none : (b : Bool) → 1 ≤ n → b ≡ anyIn (take (a + n - a) (drop a (x .pages))) 0 (64 * n - 1) → not b ≡ eqb (sizeBy x e) 0
     page-none b h g =
@@ -57,7 +58,7 @@ module _ (x : Mem) (e : ℕ) where
 
     pub page-small : Run (x .table) → (8 ≤ n) × (n ≤ 524288)
     page-small r =
-        let p = powers (getD (x .table) 0 0) (r .low) (r .high) in
+        let p = powers (head x .s) (r .low) (r .high) in
         let w = page-here .wide in
         (omega (arith, p .some-words), omega (arith, p .most-words))
 

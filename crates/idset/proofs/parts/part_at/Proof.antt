@@ -1,13 +1,15 @@
 -- By the part that the entry names: nothing, a length, a count of bits. Assumes nothing.
-use mathlib.Core.Path.{_≡_, refl, sym, _∙_}
+use mathlib.Core.Path.{_≡_, sym, _∙_}
 use Prim.Native.Nat.{_≤_}
 use native.Mathlib.Omega.{arith}
-use lib.ListN.{length, getD}
+use lib.ListN.{length}
 use Rattle.layout.specs.Mem.{Mem, memOf}
+use Rattle.layout.specs.Sizes.{head}
 use Rattle.layout.specs.declared.find.Spot.the-variants.{Page}
 use Rattle.calls.specs.Reading.{spotBy}
 use Rattle.calls.specs.Counts.{wordBy}
-use Rattle.entries.proofs.Spots.{InPages, length-part}
+use Rattle.layout.proofs.Lent.{length-lent}
+use Rattle.calls.proofs.Spots.{InPages}
 use Rattle.entries.proofs.Runs.{run}
 use Rattle.idset.proofs.Runs.{good-is, size-is, page-here, page-size, page-small}
 use borrow.Author.Needs.{needs}
@@ -20,7 +22,7 @@ memory c = memOf (c .args .pages) (c .args .rows) (c .args .blocks) (c .args .ta
 page-is : (c : tie.After-known-told2) → Page (c .before .a .given .0 .0) (c .before .a .given .0 .1 .0) ≡ spotBy (memory (c .before .before .before .before .before .before .before .before)) (wordBy (memory (c .before .before .before .before .before .before .before .before)) (c .before .before .before .before .before .before .before .before .args .e))
 page-is c = sym (c .before .a .given .1) ∙ c .before .before .before .spot-at .ensures
 
-in-pages : (c : tie.After-known-told2) → InPages (getD (memory (c .before .before .before .before .before .before .before .before) .table) 0 0) (length (memory (c .before .before .before .before .before .before .before .before) .pages)) (c .before .a .given .0 .0) (c .before .a .given .0 .1 .0)
+in-pages : (c : tie.After-known-told2) → InPages (head (memory (c .before .before .before .before .before .before .before .before)) .s) (length (memory (c .before .before .before .before .before .before .before .before) .pages)) (c .before .a .given .0 .0) (c .before .a .given .0 .1 .0)
 in-pages c = page-here (memory (c .before .before .before .before .before .before .before .before)) (c .before .before .before .before .before .before .before .before .args .e) _ _ (page-is c)
 
 small : (c : tie.After-known-told2) → (8 ≤ c .before .a .given .0 .1 .0) × (c .before .a .given .0 .1 .0 ≤ 524288)
@@ -54,7 +56,7 @@ part-count-end : tie.Need-part-count-end
 part-count-end c = in-pages c .inside
 
 count-requires : tie.Need-count-requires
-count-requires c κs = omega (arith, small (c .before), length-part (memory (c .before .before .before .before .before .before .before .before .before) .pages) _ _ (in-pages (c .before) .inside))
+count-requires c κs = omega (arith, small (c .before), length-lent (memory (c .before .before .before .before .before .before .before .before .before) .pages) _ _ (in-pages (c .before) .inside))
 
 enum-told-2 : tie.Need-enum-told-2
 enum-told-2 c = search needs
