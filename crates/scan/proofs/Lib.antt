@@ -3,3 +3,4 @@ pub mod Ranges
 pub mod Nexts
 pub mod Fills
 pub mod Records
+pub mod Promises

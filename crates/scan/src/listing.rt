@@ -4,6 +4,7 @@ ghost use mathlib.Core.Bool.{true};
 ghost use Prim.Native.Nat.{_+_, _-_, _*_, _^_, _≤_, _<_};
 ghost use lib.IntN.{pos, sucℤ};
 ghost use lib.ListN.{length, getD};
+ghost use Rattle.document.specs.Calls.{iterate, listed};
 ghost use Rattle.document.specs.Iteration.{blank, refusedListing};
 ghost use Rattle.document.specs.Sizes.{top, lastChunk};
 ghost use Rattle.layout.specs.Mem.{memOf};
@@ -11,7 +12,8 @@ ghost use Rattle.layout.specs.Sizes.{headerAt, head};
 ghost use Rattle.calls.specs.Reading.{spotBy};
 ghost use Rattle.calls.specs.Counts.{entriesOk};
 ghost use Rattle.calls.specs.Range.{anyBy, clipLow};
-ghost use Rattle.calls.specs.Iteration.{to, filledAt, fillEntry, fillRun, fillFrom, recordBy, iterBy};
+ghost use Rattle.calls.specs.Iteration.{to, filledAt, fillEntry, fillRun, fillFrom, recordBy};
+ghost use Rattle.contracts.specs.Does.{Answers};
 ghost use Rattle.scan.specs.Turns.{filled};
 use crate::clip;
 use crate::range;
@@ -234,7 +236,7 @@ fn record_of(
 // The 64 smallest members not below start, or all if fewer, with a mark that says whether that is all. A negative start is read as 0.
 pub fn iter_from(pages: &[u64], rows: &[u32], blocks: &[u32], table: &[u64], start: i64) -> Listing
     ensures { λ r. ⌜ (let x = memOf (pages .entry) (rows .entry) (blocks .entry) (table .entry) in
-        r ≡ iterBy x start) ⌝ }
+        Answers x (iterate start) (listed r)) ⌝ }
 {
     if !entries::are(table) {
         return refused(3);

@@ -3,10 +3,12 @@ ghost use mathlib.Core.Path.{_≡_};
 ghost use mathlib.Core.Bool.{true};
 ghost use Prim.Native.Nat.{_-_, _^_, _≤_, _<_};
 ghost use lib.ListN.{getD};
+ghost use Rattle.document.specs.Calls.{any-in-range, whether};
 ghost use Rattle.layout.specs.Mem.{memOf};
 ghost use Rattle.calls.specs.Reading.{spotBy};
 ghost use Rattle.calls.specs.Counts.{entriesOk};
-ghost use Rattle.calls.specs.Range.{anyAt, anyEntry, anyRun, anyFrom, anyBy};
+ghost use Rattle.calls.specs.Range.{anyAt, anyEntry, anyRun, anyFrom};
+ghost use Rattle.contracts.specs.Does.{Answers};
 ghost use Rattle.scan.specs.Turns.{isNo};
 use crate::clip;
 use document::answer::Truth;
@@ -145,7 +147,7 @@ pub fn any_in_range(
     max: i64,
 ) -> Truth
     ensures { λ r. ⌜ (let x = memOf (pages .entry) (rows .entry) (blocks .entry) (table .entry) in
-        r ≡ anyBy x min max) ⌝ }
+        Answers x (any-in-range min max) (whether r)) ⌝ }
 {
     if !entries::are(table) {
         return Truth::Refused(3);

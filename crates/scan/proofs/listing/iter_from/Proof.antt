@@ -4,6 +4,7 @@ use mathlib.Core.Bool.{true}
 use borrow.Author.Tests.{not-true, not-false}
 use Rattle.layout.specs.Mem.{Mem, memOf}
 use Rattle.calls.specs.Counts.{entriesOk}
+use Rattle.scan.proofs.Promises.{iterate}
 use Rattle.scan.proofs.Records.{iter-refused, iter-bad, iter-to}
 use borrow.Author.Needs.{needs}
 use Rattle.scan.proofs.listing.iter_from.Statement.{statement}
@@ -23,7 +24,7 @@ refused-requires : tie.Need-refused-requires
 refused-requires c κs = search needs
 
 returns : tie.Need-returns
-returns c = let a = c .before .before .before .before .before .before .before in c .refused .ensures ∙ iter-refused (memory a) (a .args .start) (a .fits .start) (sym (c .before .before .are .ensures) ∙ not-true _ (c .before .if1 .taken))
+returns c = let a = c .before .before .before .before .before .before .before in iterate (memory a) (a .args .start) (c .refused .ensures ∙ iter-refused (memory a) (a .args .start) (a .fits .start) (sym (c .before .before .are .ensures) ∙ not-true _ (c .before .if1 .taken)))
 
 from-zero-requires : tie.Need-from-zero-requires
 from-zero-requires c κs = search needs
@@ -44,13 +45,13 @@ refused-requires-2 : tie.Need-refused-requires-2
 refused-requires-2 c κs = search needs
 
 returns-2 : tie.Need-returns-2
-returns-2 c = let a = c .before .before .before .before .before .before .before .before .before .before .before .before .before in let k = c .before .before .before .before .fill-from in c .refused2 .ensures ∙ iter-bad (memory a) (a .args .start) (a .fits .start) (good (c .before .before .before .before .before .before .before)) _ (c .before .before .before .before .before .before .from-zero .ensures) _ (k .last .1 .1 .1 .1 .1 .0) (k .ensures) (c .before .enum-told .given .1)
+returns-2 c = let a = c .before .before .before .before .before .before .before .before .before .before .before .before .before in let k = c .before .before .before .before .fill-from in iterate (memory a) (a .args .start) (c .refused2 .ensures ∙ iter-bad (memory a) (a .args .start) (a .fits .start) (good (c .before .before .before .before .before .before .before)) _ (c .before .before .before .before .before .before .from-zero .ensures) _ (k .last .1 .1 .1 .1 .1 .0) (k .ensures) (c .before .enum-told .given .1))
 
 record-of-requires : tie.Need-record-of-requires
 record-of-requires c κs = good (c .before .before .before .before .before .before .before)
 
 returns-3 : tie.Need-returns-3
-returns-3 c = let a = c .before .before .before .before .before .before .before .before .before .before .before .before .before .before in let k = c .before .before .before .before .before .fill-from in iter-to (memory a) (a .args .start) (a .fits .start) (good (c .before .before .before .before .before .before .before .before)) _ (c .before .before .before .before .before .before .before .from-zero .ensures) _ (k .last .1 .1 .1 .1 .1 .0) (k .ensures) _ _ (c .before .before .k .given .1) (c .record-of .ensures)
+returns-3 c = let a = c .before .before .before .before .before .before .before .before .before .before .before .before .before .before in let k = c .before .before .before .before .before .fill-from in iterate (memory a) (a .args .start) (iter-to (memory a) (a .args .start) (a .fits .start) (good (c .before .before .before .before .before .before .before .before)) _ (c .before .before .before .before .before .before .before .from-zero .ensures) _ (k .last .1 .1 .1 .1 .1 .0) (k .ensures) _ _ (c .before .before .k .given .1) (c .record-of .ensures))
 
 pub iter-from-spec : {M : Type 1} → statement M
 iter-from-spec =

@@ -9,6 +9,7 @@ use Rattle.layout.specs.Mem.{Mem, memOf}
 use Rattle.calls.specs.Counts.{entriesOk}
 use Rattle.calls.specs.Range.{anyBy}
 use Rattle.calls.specs.Iteration.{fromZero}
+use Rattle.scan.proofs.Promises.{any-in-range}
 use Rattle.scan.proofs.Ranges.{any-refused, any-below, any-empty, any-some}
 use borrow.Author.Needs.{needs}
 use Rattle.scan.proofs.range.any_in_range.Statement.{statement}
@@ -25,7 +26,7 @@ are-requires : tie.Need-are-requires
 are-requires c κs = search needs
 
 returns : tie.Need-returns
-returns c = let a = c .before .before .before .before .before .before in any-refused (memory a) (a .args .min) (a .args .max) (sym (c .before .are .ensures) ∙ not-true _ (c .if1 .taken))
+returns c = let a = c .before .before .before .before .before .before in any-in-range (memory a) (a .args .min) (a .args .max) (any-refused (memory a) (a .args .min) (a .args .max) (sym (c .before .are .ensures) ∙ not-true _ (c .if1 .taken)))
 
 natural-requires : tie.Need-natural-requires
 natural-requires c κs = search needs
@@ -37,19 +38,19 @@ enum-told : tie.Need-enum-told
 enum-told c = search needs
 
 returns-2 : tie.Need-returns-2
-returns-2 c = let a = c .before .before .before .before .before .before .before .before .before in of-negative (a .args .max) (a .fits .max) _ (c .before .before .natural .ensures) (λ (z : ℤ). Is false ≡ anyBy (memory a) (a .args .min) z) (c .enum-told .given .1) (any-below (memory a) (good (c .before .before .before)) (a .args .min))
+returns-2 c = let a = c .before .before .before .before .before .before .before .before .before in any-in-range (memory a) (a .args .min) (a .args .max) (of-negative (a .args .max) (a .fits .max) _ (c .before .before .natural .ensures) (λ (z : ℤ). Is false ≡ anyBy (memory a) (a .args .min) z) (c .enum-told .given .1) (any-below (memory a) (good (c .before .before .before)) (a .args .min)))
 
 from-zero-requires : tie.Need-from-zero-requires
 from-zero-requires c κs = search needs
 
 returns-3 : tie.Need-returns-3
-returns-3 c = let a = c .before .before .before .before .before .before .before .before .before .before .before .before in of-at (a .args .max) (a .fits .max) _ (c .before .before .before .before .before .natural .ensures) (λ (z : ℤ). Is false ≡ anyBy (memory a) (a .args .min) z) _ (c .before .before .before .hi .given .1) (any-empty (memory a) (good (c .before .before .before .before .before .before)) (a .args .min) _ _ (c .before .from-zero .ensures ∙ hop fromZero (a .args .min) (a .fits .min)) (c .if2 .taken))
+returns-3 c = let a = c .before .before .before .before .before .before .before .before .before .before .before .before in any-in-range (memory a) (a .args .min) (a .args .max) (of-at (a .args .max) (a .fits .max) _ (c .before .before .before .before .before .natural .ensures) (λ (z : ℤ). Is false ≡ anyBy (memory a) (a .args .min) z) _ (c .before .before .before .hi .given .1) (any-empty (memory a) (good (c .before .before .before .before .before .before)) (a .args .min) _ _ (c .before .from-zero .ensures ∙ hop fromZero (a .args .min) (a .fits .min)) (c .if2 .taken)))
 
 any-from-requires : tie.Need-any-from-requires
 any-from-requires c κs = good (c .before .before .before .before .before .before)
 
 returns-4 : tie.Need-returns-4
-returns-4 c = let a = c .before .before .before .before .before .before .before .before .before .before .before .before .before in of-at (a .args .max) (a .fits .max) _ (c .before .before .before .before .before .before .natural .ensures) (λ (z : ℤ). c .any-from .result ≡ anyBy (memory a) (a .args .min) z) _ (c .before .before .before .before .hi .given .1) (c .any-from .ensures ∙ any-some (memory a) (good (c .before .before .before .before .before .before .before)) (a .args .min) _ _ (c .before .before .from-zero .ensures ∙ hop fromZero (a .args .min) (a .fits .min)) (c .before .if2 .left))
+returns-4 c = let a = c .before .before .before .before .before .before .before .before .before .before .before .before .before in any-in-range (memory a) (a .args .min) (a .args .max) (of-at (a .args .max) (a .fits .max) _ (c .before .before .before .before .before .before .natural .ensures) (λ (z : ℤ). c .any-from .result ≡ anyBy (memory a) (a .args .min) z) _ (c .before .before .before .before .hi .given .1) (c .any-from .ensures ∙ any-some (memory a) (good (c .before .before .before .before .before .before .before)) (a .args .min) _ _ (c .before .before .from-zero .ensures ∙ hop fromZero (a .args .min) (a .fits .min)) (c .before .if2 .left)))
 
 pub any-in-range-spec : {M : Type 1} → statement M
 any-in-range-spec =
