@@ -31,7 +31,8 @@ use Rattle.scan.specs.Turns.{filled}
 use Rattle.scan.specs.declared.listing.Step.{Step}
 use Rattle.scan.specs.declared.listing.Step.the-variants.{To, Bad}
 use Rattle.entries.proofs.Runs.{Run}
-use Rattle.entries.proofs.Spots.{InPages, span, length-part}
+use Rattle.layout.proofs.Lent.{span, length-lent}
+use Rattle.calls.proofs.Spots.{InPages}
 
 -- ---- a part
 
@@ -63,7 +64,7 @@ module _ (x : Mem) (b a : ℕ) (ids : List ℤ) (k w : ℕ) where
       (plus b (membersIn (isSet (take (i + n - i) (drop i (x .pages)))) a (64 * length (take (i + n - i) (drop i (x .pages))) - a)))
       (plus b (membersIn (isSet (take n (drop i (x .pages)))) a (64 * n - a)))
       out r f g
-      (ap₂ (λ (j m : ℕ). plus b (membersIn (isSet (take j (drop i (x .pages)))) a (64 * m - a))) (span i n) (length-part (x .pages) i n h))
+      (ap₂ (λ (j m : ℕ). plus b (membersIn (isSet (take j (drop i (x .pages)))) a (64 * m - a))) (span i n) (length-lent (x .pages) i n h))
       ∙ fill-spot (Page i n) e
 
 -- what the leaves ask: ids that fit
@@ -71,7 +72,7 @@ pub row-fits : (b : ℕ) {s t : ℕ} → s ≡ t → b + 2 ^ t ≤ 2 ^ 63 → b 
 row-fits b e h = subst (λ (k : ℕ). b + 2 ^ k ≤ 2 ^ 63) (sym e) h
 
 pub page-fits : (pages : List ℕ) (s i n b : ℕ) → 9 ≤ s → s ≤ 25 → InPages s (length pages) i n → b + 2 ^ s ≤ 2 ^ 63 → b + 64 * length (take (i + n - i) (drop i pages)) ≤ 2 ^ 63
-page-fits pages s i n b l h q f = omega (arith, powers s l h .words, q .wide, length-part pages i n (q .inside))
+page-fits pages s i n b l h q f = omega (arith, powers s l h .words, q .wide, length-lent pages i n (q .inside))
 
 -- ---- the ids of a chunk are below 2^63
 

@@ -21,7 +21,7 @@ use Rattle.calls.specs.Reading.{spotBy}
 use Rattle.calls.specs.Counts.{entriesOk, entriesOf, wordBy}
 use Rattle.calls.specs.Range.{chunkBy, entryFrom, clipLow, clipHigh, anyAt, anyEntry, orNext, anyRun, anyFrom, anyOf, anyBy}
 use Rattle.calls.specs.Iteration.{fromZero}
-use Rattle.entries.proofs.Spots.{span}
+use Rattle.layout.proofs.Lent.{span}
 use Rattle.scan.specs.Turns.{isNo}
 
 -- ---- a part

@@ -8,9 +8,9 @@ ghost use Rattle.layout.specs.Mem.{mem};
 ghost use Rattle.calls.specs.Counts.{entriesOk};
 ghost use Rattle.calls.specs.Range.{entryFrom, clipLow, clipHigh};
 ghost use Rattle.calls.specs.Iteration.{fromZero};
+use layout::head;
 use numbers::Natural;
 use numbers::id as ids;
-use numbers::place as element;
 use numbers::power;
 
 // A negative start is read as 0.
@@ -28,7 +28,7 @@ pub fn first(table: &[u64], lo: u64) -> u64
     requires { ⌜ entriesOk (now table) ≡ true ⌝ }
     ensures { λ e. ⌜ ((pages rows blocks : List ℕ) → e ≡ entryFrom (mem pages rows blocks (now (table .entry))) (lo / 2 ^ getD (now (table .entry)) 0 0)) ⌝ }
 {
-    let c = power::high(lo, element::at(table, 0));
+    let c = power::high(lo, head::shift(table));
     entries::from(table, c)
 }
 

@@ -22,7 +22,7 @@ use document::answer::Truth;
 use layout::entry;
 use layout::find;
 use layout::find::Spot;
-use numbers::place as element;
+use layout::head;
 use numbers::power;
 
 // The first place of a record that is unused, or a part that is not inside its pool.
@@ -46,15 +46,15 @@ fn fill_at(
     out: &mut [i64],
     k: usize,
 ) -> Step
-    requires { ⌜ (9 ≤ getD (now table) 0 0) × (getD (now table) 0 0 ≤ 25) × (base + 2 ^ getD (now table) 0 0 ≤ 2 ^ 63) × (from < 2 ^ getD (now table) 0 0) × (k ≤ length (now out)) ⌝ }
+    requires { ⌜ (9 ≤ headerAt (now table) .s) × (headerAt (now table) .s ≤ 25) × (base + 2 ^ headerAt (now table) .s ≤ 2 ^ 63) × (from < 2 ^ headerAt (now table) .s) × (k ≤ length (now out)) ⌝ }
     ensures { λ r. ⌜ (let x = memOf (pages .entry) (rows .entry) (blocks .entry) (table .entry) in
         filled r (now (out .exit)) ≡ filledAt x base from (now (out .entry)) k (spotBy x w)) ⌝ }
 {
-    match find::spot_of(table, pages.len() as u64, rows.len() as u64, w) {
+    match find::spot_of(pages, rows, table, w) {
         Spot::Nowhere => Step::To(k),
         Spot::Row(i, n, l) => {
             let j = i + n;
-            let s = element::at(table, 0);
+            let s = head::shift(table);
             Step::To(sparse::list::ids(&rows[i..j], l, from as u32, base, s, out, k))
         }
         Spot::Page(i, n) => {
@@ -81,7 +81,7 @@ fn fill_chunk(
     ensures { λ r. ⌜ (let x = memOf (pages .entry) (rows .entry) (blocks .entry) (table .entry) in
         filled r (now (out .exit)) ≡ filledAt x (c * top (head x)) (clipLow (top (head x)) lo c) (now (out .entry)) k (spotBy x w)) ⌝ }
 {
-    let s = element::at(table, 0);
+    let s = head::shift(table);
     let base = power::shifted(c, s);
     let from = clip::low(s, lo, c);
     fill_at(pages, rows, blocks, table, base, from, w, out, k)
@@ -102,7 +102,7 @@ fn fill_entry(
     ensures { λ r. ⌜ (let x = memOf (pages .entry) (rows .entry) (blocks .entry) (table .entry) in
         filled r (now (out .exit)) ≡ fillEntry x lo e (now (out .entry)) k) ⌝ }
 {
-    let s = element::at(table, 0);
+    let s = head::shift(table);
     let c = entries::chunk(table, e);
     if power::pow2(63 - s) <= c {
         return Step::Bad;

@@ -5,6 +5,7 @@ ghost use Prim.Native.Nat.{_-_, _^_, _≤_, _<_};
 ghost use lib.ListN.{getD};
 ghost use Rattle.document.specs.Calls.{any-in-range, whether};
 ghost use Rattle.layout.specs.Mem.{memOf};
+ghost use Rattle.layout.specs.Sizes.{headerAt};
 ghost use Rattle.calls.specs.Reading.{spotBy};
 ghost use Rattle.calls.specs.Counts.{entriesOk};
 ghost use Rattle.calls.specs.Range.{anyAt, anyEntry, anyRun, anyFrom};
@@ -12,12 +13,13 @@ ghost use Rattle.contracts.specs.Does.{Answers};
 ghost use Rattle.scan.specs.Turns.{isNo};
 use crate::clip;
 use document::answer::Truth;
+use document::refusal;
 use layout::entry;
 use layout::find;
 use layout::find::Spot;
+use layout::head;
 use numbers::Natural;
 use numbers::id as ids;
-use numbers::place as element;
 use numbers::power;
 
 // Whether the part that word w names has an offset in a to b.
@@ -30,11 +32,11 @@ fn any_at(
     b: u64,
     w: u64,
 ) -> Truth
-    requires { ⌜ (9 ≤ getD (now table) 0 0) × (getD (now table) 0 0 ≤ 25) × (a < 2 ^ getD (now table) 0 0) × (b < 2 ^ getD (now table) 0 0) ⌝ }
+    requires { ⌜ (9 ≤ headerAt (now table) .s) × (headerAt (now table) .s ≤ 25) × (a < 2 ^ headerAt (now table) .s) × (b < 2 ^ headerAt (now table) .s) ⌝ }
     ensures { λ r. ⌜ (let x = memOf (pages .entry) (rows .entry) (blocks .entry) (table .entry) in
         r ≡ anyAt x a b (spotBy x w)) ⌝ }
 {
-    match find::spot_of(table, pages.len() as u64, rows.len() as u64, w) {
+    match find::spot_of(pages, rows, table, w) {
         Spot::Nowhere => Truth::Is(false),
         Spot::Row(i, n, l) => {
             let j = i + n;
@@ -44,7 +46,7 @@ fn any_at(
             let j = i + n;
             Truth::Is(dense::any_in(&pages[i..j], a, b))
         }
-        Spot::Bad => Truth::Refused(3),
+        Spot::Bad => Truth::Refused(refusal::NOT_LAID_OUT),
     }
 }
 
@@ -66,7 +68,7 @@ fn any_entry(
     if w == 0 {
         return Truth::Is(false);
     }
-    let s = element::at(table, 0);
+    let s = head::shift(table);
     let c = entries::chunk(table, e);
     any_at(
         pages,
@@ -103,7 +105,7 @@ fn any_run(
     ensures { λ r. ⌜ (let x = memOf (pages .entry) (rows .entry) (blocks .entry) (table .entry) in
         r ≡ anyRun x lo hi (n - e) e) ⌝ }
 {
-    let last = power::high(hi, element::at(table, 0));
+    let last = power::high(hi, head::shift(table));
     let mut i = e;
     while i < n {
         if last < entries::chunk(table, i) {
@@ -150,7 +152,7 @@ pub fn any_in_range(
         Answers x (any-in-range min max) (whether r)) ⌝ }
 {
     if !entries::are(table) {
-        return Truth::Refused(3);
+        return Truth::Refused(refusal::NOT_LAID_OUT);
     }
     let Natural::At(hi) = ids::natural(max) else {
         return Truth::Is(false);

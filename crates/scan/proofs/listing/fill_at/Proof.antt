@@ -4,7 +4,8 @@ use native.Mathlib.Omega.{arith}
 use lib.ListN.{length, getD}
 use Rattle.numbers.proofs.Powers.{powers}
 use Rattle.layout.specs.Mem.{Mem, memOf}
-use Rattle.entries.proofs.Spots.{InRows, InPages, spot-row, spot-page, length-part}
+use Rattle.layout.proofs.Lent.{length-lent}
+use Rattle.calls.proofs.Spots.{InRows, InPages, spot-row, spot-page}
 use Rattle.scan.proofs.Fills.{fill-spot, fill-row, fill-page, row-fits, page-fits}
 use borrow.Author.Needs.{needs}
 use Rattle.scan.proofs.listing.fill_at.Statement.{statement}
@@ -19,7 +20,7 @@ in-row c = c .before .before .before .before .before .before .before .before
 abbrev in-page : tie.After-known-told2 → tie.Start
 in-page c = c .before .before .before .before .before .before .before .before
 
-row-is : (c : tie.After-known-told) → InRows (getD (memory (in-row c) .table) 1 0) (length (memory (in-row c) .rows)) (c .before .i .given .0 .0) (c .before .i .given .0 .1 .0) (c .before .i .given .0 .1 .1 .0)
+row-is : (c : tie.After-known-told) → InRows (length (memory (in-row c) .rows)) (c .before .i .given .0 .0) (c .before .i .given .0 .1 .0) (c .before .i .given .0 .1 .1 .0)
 row-is c = spot-row (memory (in-row c)) (in-row c .args .w) _ _ _ (sym (c .before .before .before .spot-of .ensures) ∙ c .before .i .given .1)
 
 page-is : (c : tie.After-known-told2) → InPages (getD (memory (in-page c) .table) 0 0) (length (memory (in-page c) .pages)) (c .before .i2 .given .0 .0) (c .before .i2 .given .0 .1 .0)
@@ -37,8 +38,8 @@ enum-known-i c = search needs
 add-j : tie.Need-add-j
 add-j c = omega (arith, row-is c, in-row c .good)
 
-at-requires : tie.Need-at-requires
-at-requires c κs = search needs
+shift-requires : tie.Need-shift-requires
+shift-requires c κs = search needs
 
 mul-ids : tie.Need-mul-ids
 mul-ids c = omega (arith, row-is (c .before), in-row (c .before) .good)
@@ -56,7 +57,7 @@ cast-ids : tie.Need-cast-ids
 cast-ids c = let a = in-row (c .before .before) in omega (arith, powers (getD (memory a .table) 0 0) (a .pre .0) (a .pre .1) .most, a .pre .3)
 
 ids-requires : tie.Need-ids-requires
-ids-requires c κs = let a = in-row (c .before .before .before) in let r = row-is (c .before .before .before) in (omega (arith, r .short, length-part (memory a .rows) _ _ (r .inside)), omega (arith, a .pre .1, c .before .before .at .ensures), row-fits (a .args .base) (c .before .before .at .ensures) (a .pre .2), a .pre .4)
+ids-requires c κs = let a = in-row (c .before .before .before) in let r = row-is (c .before .before .before) in (omega (arith, r .short, length-lent (memory a .rows) _ _ (r .inside)), omega (arith, a .pre .1, c .before .before .shift .ensures), row-fits (a .args .base) (c .before .before .shift .ensures) (a .pre .2), a .pre .4)
 
 enum-known-i-2 : tie.Need-enum-known-i-2
 enum-known-i-2 c = search needs
@@ -89,7 +90,7 @@ same-length : tie.Need-same-length
 same-length c = search needs
 
 returns-2 : tie.Need-returns-2
-returns-2 c = let a = c .before .before .before .before .before .before .before .before .before .before .before .before .before in fill-row (memory a) (a .args .base) (a .args .from) (a .args .out .now) (a .args .k) (a .args .w) _ _ _ _ _ _ (sym (c .before .before .before .before .before .before .i .given .1) ∙ c .before .before .before .before .before .before .before .before .spot-of .ensures) (c .before .before .before .before .at .ensures) (c .before .ids .ensures .0) (c .before .ids .ensures .1)
+returns-2 c = let a = c .before .before .before .before .before .before .before .before .before .before .before .before .before in fill-row (memory a) (a .args .base) (a .args .from) (a .args .out .now) (a .args .k) (a .args .w) _ _ _ _ _ _ (sym (c .before .before .before .before .before .before .i .given .1) ∙ c .before .before .before .before .before .before .before .before .spot-of .ensures) (c .before .before .before .before .shift .ensures) (c .before .ids .ensures .0) (c .before .ids .ensures .1)
 
 same-length-2 : tie.Need-same-length-2
 same-length-2 c = search needs
@@ -108,7 +109,7 @@ fill-at-spec =
     enum-told
     enum-known-i
     add-j
-    at-requires
+    shift-requires
     mul-ids
     sub-ids
     part-ids-start

@@ -18,16 +18,16 @@ sizes : (a : tie.Start) → Run (memory a .table)
 sizes a = run (memory a .table) (a .pre .0)
 
 last : (c : tie.After-pow2) → c .pow2 .result ≡ lastChunk (head (memory (c .before .before .before .before .before .before .before)))
-last c = last-is _ _ _ (c .before .before .at .ensures) (c .pow2 .ensures)
+last c = last-is _ _ _ (c .before .before .shift .ensures) (c .pow2 .ensures)
 
-at-requires : tie.Need-at-requires
-at-requires c κs = search needs
+shift-requires : tie.Need-shift-requires
+shift-requires c κs = search needs
 
 chunk-requires : tie.Need-chunk-requires
 chunk-requires c κs = search needs
 
 sub-pow2 : tie.Need-sub-pow2
-sub-pow2 c = omega (arith, sizes (c .before .before .before .before .before .before) .high, c .before .at .ensures)
+sub-pow2 c = omega (arith, sizes (c .before .before .before .before .before .before) .high, c .before .shift .ensures)
 
 pow2-requires : tie.Need-pow2-requires
 pow2-requires c κs = search needs
@@ -54,7 +54,7 @@ pub fill-entry-spec : {M : Type 1} → statement M
 fill-entry-spec =
     tie.close
     (tie.spec
-    at-requires
+    shift-requires
     chunk-requires
     sub-pow2
     pow2-requires

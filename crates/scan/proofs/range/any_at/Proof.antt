@@ -4,7 +4,8 @@ use native.Mathlib.Omega.{arith}
 use lib.ListN.{length, getD}
 use Rattle.numbers.proofs.Powers.{powers}
 use Rattle.layout.specs.Mem.{Mem, memOf}
-use Rattle.entries.proofs.Spots.{InRows, InPages, spot-row, spot-page, length-part, offset-in}
+use Rattle.layout.proofs.Lent.{length-lent}
+use Rattle.calls.proofs.Spots.{InRows, InPages, spot-row, spot-page, offset-bit}
 use Rattle.scan.proofs.Ranges.{any-spot, any-row, any-page}
 use borrow.Author.Needs.{needs}
 use Rattle.scan.proofs.range.any_at.Statement.{statement}
@@ -19,7 +20,7 @@ in-row c = c .before .before .before .before .before .before .before .before
 abbrev in-page : tie.After-known-told2 → tie.Start
 in-page c = c .before .before .before .before .before .before .before .before
 
-row-is : (c : tie.After-known-told) → InRows (getD (memory (in-row c) .table) 1 0) (length (memory (in-row c) .rows)) (c .before .i .given .0 .0) (c .before .i .given .0 .1 .0) (c .before .i .given .0 .1 .1 .0)
+row-is : (c : tie.After-known-told) → InRows (length (memory (in-row c) .rows)) (c .before .i .given .0 .0) (c .before .i .given .0 .1 .0) (c .before .i .given .0 .1 .1 .0)
 row-is c = spot-row (memory (in-row c)) (in-row c .args .w) _ _ _ (sym (c .before .before .before .spot-of .ensures) ∙ c .before .i .given .1)
 
 page-is : (c : tie.After-known-told2) → InPages (getD (memory (in-page c) .table) 0 0) (length (memory (in-page c) .pages)) (c .before .i2 .given .0 .0) (c .before .i2 .given .0 .1 .0)
@@ -56,7 +57,7 @@ cast-any-in-2 : tie.Need-cast-any-in-2
 cast-any-in-2 c = let a = in-row (c .before) in omega (arith, powers (getD (memory a .table) 0 0) (a .pre .0) (a .pre .1) .most, a .pre .3)
 
 any-in-requires : tie.Need-any-in-requires
-any-in-requires c κs = let r = row-is (c .before) in omega (arith, r .short, length-part (memory (in-row (c .before)) .rows) _ _ (r .inside))
+any-in-requires c κs = let r = row-is (c .before) in omega (arith, r .short, length-lent (memory (in-row (c .before)) .rows) _ _ (r .inside))
 
 enum-known-i-2 : tie.Need-enum-known-i-2
 enum-known-i-2 c = search needs

@@ -21,23 +21,23 @@ word-by-requires c κs = let a = c .before .before .before .before in (sizes a .
 returns : tie.Need-returns
 returns c = let a = c .before .before .before .before .before .before in entry-absent (memory a) (a .args .lo) (a .args .hi) (a .args .e) _ (c .before .word-by .ensures) (c .if1 .taken)
 
-at-requires : tie.Need-at-requires
-at-requires c κs = search needs
+shift-requires : tie.Need-shift-requires
+shift-requires c κs = search needs
 
 chunk-requires : tie.Need-chunk-requires
 chunk-requires c κs = search needs
 
 low-requires : tie.Need-low-requires
-low-requires c κs = shift-is (sizes (c .before .before .before .before .before .before .before .before)) (c .before .at .ensures)
+low-requires c κs = shift-is (sizes (c .before .before .before .before .before .before .before .before)) (c .before .shift .ensures)
 
 high-requires : tie.Need-high-requires
-high-requires c κs = shift-is (sizes (c .before .before .before .before .before .before .before .before .before)) (c .before .before .at .ensures)
+high-requires c κs = shift-is (sizes (c .before .before .before .before .before .before .before .before .before)) (c .before .before .shift .ensures)
 
 any-at-requires : tie.Need-any-at-requires
-any-at-requires c κs = let r = sizes (c .before .before .before .before .before .before .before .before .before .before) in let e = c .before .before .before .at .ensures in (r .low, r .high, below-is e (c .before .low .ensures .1), below-is e (c .high .ensures .1))
+any-at-requires c κs = let r = sizes (c .before .before .before .before .before .before .before .before .before .before) in let e = c .before .before .before .shift .ensures in (r .low, r .high, below-is e (c .before .low .ensures .1), below-is e (c .high .ensures .1))
 
 returns-2 : tie.Need-returns-2
-returns-2 c = let a = c .before .before .before .before .before .before .before .before .before .before .before in c .any-at .ensures ∙ entry-is (memory a) (a .args .lo) (a .args .hi) (a .args .e) _ (c .before .before .before .before .before .before .word-by .ensures) _ _ _ _ (c .before .before .before .before .at .ensures) (c .before .before .before .chunk .ensures) (c .before .before .low .ensures .0) (c .before .high .ensures .0)
+returns-2 c = let a = c .before .before .before .before .before .before .before .before .before .before .before in c .any-at .ensures ∙ entry-is (memory a) (a .args .lo) (a .args .hi) (a .args .e) _ (c .before .before .before .before .before .before .word-by .ensures) _ _ _ _ (c .before .before .before .before .shift .ensures) (c .before .before .before .chunk .ensures) (c .before .before .low .ensures .0) (c .before .high .ensures .0)
 
 pub any-entry-spec : {M : Type 1} → statement M
 any-entry-spec =
@@ -45,7 +45,7 @@ any-entry-spec =
     (tie.spec
     word-by-requires
     returns
-    at-requires
+    shift-requires
     chunk-requires
     low-requires
     high-requires

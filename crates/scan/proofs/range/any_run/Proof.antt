@@ -21,11 +21,11 @@ abbrev μ-loop : tie.MeasureT-loop
 abbrev memory : tie.Start Inv-loop μ-loop → Mem
 memory c = memOf (c .args .pages) (c .args .rows) (c .args .blocks) (c .args .table)
 
-at-requires : tie.Need-at-requires Inv-loop μ-loop
-at-requires c κs = search needs
+shift-requires : tie.Need-shift-requires Inv-loop μ-loop
+shift-requires c κs = search needs
 
 high-requires : tie.Need-high-requires Inv-loop μ-loop
-high-requires c κs = let a = c .before .before .before .before .before in shift-is (run (memory a .table) (a .pre .0)) (c .at .ensures)
+high-requires c κs = let a = c .before .before .before .before .before in shift-is (run (memory a .table) (a .pre .0)) (c .shift .ensures)
 
 loop-holds : tie.Need-loop-holds Inv-loop μ-loop
 loop-holds c = refl
@@ -34,7 +34,7 @@ chunk-requires : tie.Need-chunk-requires Inv-loop μ-loop
 chunk-requires c κs = let a = c .before .before .before .before .before .before .before .before in (a .pre .0, omega (arith, c .loop-test, a .pre .1))
 
 returns : tie.Need-returns Inv-loop μ-loop
-returns c = let a = c .before .before .before .before .before .before .before .before .before .before in let l = c .before .before .before .loop in run-past (memory a) (a .args .lo) (a .args .hi) (l .i) (a .args .n) (c .before .before .loop-test .taken) _ _ (c .before .chunk .ensures) (quotient-is (c .before .before .before .before .before .at .ensures) (a .args .hi) (c .before .before .before .before .high .ensures)) (c .if1 .taken) ∙ l .inv
+returns c = let a = c .before .before .before .before .before .before .before .before .before .before in let l = c .before .before .before .loop in run-past (memory a) (a .args .lo) (a .args .hi) (l .i) (a .args .n) (c .before .before .loop-test .taken) _ _ (c .before .chunk .ensures) (quotient-is (c .before .before .before .before .before .shift .ensures) (a .args .hi) (c .before .before .before .before .high .ensures)) (c .if1 .taken) ∙ l .inv
 
 any-entry-requires : tie.Need-any-entry-requires Inv-loop μ-loop
 any-entry-requires c κs = let a = c .before .before .before .before .before .before .before .before .before .before in (a .pre .0, omega (arith, c .before .before .loop-test, a .pre .1))
@@ -43,7 +43,7 @@ is-no-requires : tie.Need-is-no-requires Inv-loop μ-loop
 is-no-requires c κs = search needs
 
 returns-2 : tie.Need-returns-2 Inv-loop μ-loop
-returns-2 c = let a = c .before .before .before .before .before .before .before .before .before .before .before .before .before in let l = c .before .before .before .before .before .before .loop in run-found (memory a) (a .args .lo) (a .args .hi) (l .i) (a .args .n) (c .before .before .before .before .before .loop-test .taken) _ _ (c .before .before .before .before .chunk .ensures) (quotient-is (c .before .before .before .before .before .before .before .before .at .ensures) (a .args .hi) (c .before .before .before .before .before .before .before .high .ensures)) (c .before .before .before .if1 .left) _ (c .before .before .any-entry .ensures) (sym (c .before .is-no .ensures) ∙ not-true _ (c .if2 .taken)) ∙ l .inv
+returns-2 c = let a = c .before .before .before .before .before .before .before .before .before .before .before .before .before in let l = c .before .before .before .before .before .before .loop in run-found (memory a) (a .args .lo) (a .args .hi) (l .i) (a .args .n) (c .before .before .before .before .before .loop-test .taken) _ _ (c .before .before .before .before .chunk .ensures) (quotient-is (c .before .before .before .before .before .before .before .before .shift .ensures) (a .args .hi) (c .before .before .before .before .before .before .before .high .ensures)) (c .before .before .before .if1 .left) _ (c .before .before .any-entry .ensures) (sym (c .before .is-no .ensures) ∙ not-true _ (c .if2 .taken)) ∙ l .inv
 
 add-i : tie.Need-add-i Inv-loop μ-loop
 add-i c = omega (arith, c .before .before .before .before .before .loop-test, c .before .before .before .before .before .before .before .before .before .before .before .before .before .pre .1)
@@ -52,7 +52,7 @@ loop-less : tie.Need-loop-less Inv-loop μ-loop
 loop-less c = omega (arith, c .before .before .before .before .before .loop-test)
 
 loop-again : tie.Need-loop-again Inv-loop μ-loop
-loop-again c = let a = c .before .before .before .before .before .before .before .before .before .before .before .before .before in let l = c .before .before .before .before .before .before .loop in run-next (memory a) (a .args .lo) (a .args .hi) (l .i) (a .args .n) (c .before .before .before .before .before .loop-test .taken) _ _ (c .before .before .before .before .chunk .ensures) (quotient-is (c .before .before .before .before .before .before .before .before .at .ensures) (a .args .hi) (c .before .before .before .before .before .before .before .high .ensures)) (c .before .before .before .if1 .left) _ (c .before .before .any-entry .ensures) (sym (c .before .is-no .ensures) ∙ not-false _ (c .if2 .left)) ∙ l .inv
+loop-again c = let a = c .before .before .before .before .before .before .before .before .before .before .before .before .before in let l = c .before .before .before .before .before .before .loop in run-next (memory a) (a .args .lo) (a .args .hi) (l .i) (a .args .n) (c .before .before .before .before .before .loop-test .taken) _ _ (c .before .before .before .before .chunk .ensures) (quotient-is (c .before .before .before .before .before .before .before .before .shift .ensures) (a .args .hi) (c .before .before .before .before .before .before .before .high .ensures)) (c .before .before .before .if1 .left) _ (c .before .before .any-entry .ensures) (sym (c .before .is-no .ensures) ∙ not-false _ (c .if2 .left)) ∙ l .inv
 
 returns-3 : tie.Need-returns-3 Inv-loop μ-loop
 returns-3 c = let a = c .before .before .before .before .before .before .before .before in let l = c .before .loop in run-end (memory a) (a .args .lo) (a .args .hi) (l .i) (a .args .n) (c .loop-test .left) ∙ l .inv
@@ -63,7 +63,7 @@ any-run-spec =
     (tie.spec
     Inv-loop
     μ-loop
-    at-requires
+    shift-requires
     high-requires
     loop-holds
     chunk-requires
