@@ -52,7 +52,7 @@ perhapsCode (perhaps.Refused n) = code 2 n
 -- ---- a plan's answers, with a place for the refusal number; what isn't said is 0
 
 abbrev pub planCode : ℕ → ℕ → ℕ → ℕ → ℕ → PlanAnswer
-planCode k c t S n = record { kind = k; refusal = c; total = t; slots = S; partitions = n }
+planCode k c t slots n = record { kind = k; refusal = c; total = t; slots = slots; partitions = n }
 
 abbrev pub planningCode : Planning → PlanAnswer
 planningCode (planning.Made p) = planCode 1 0 (p .total) (p .slots) (p .partitions)
@@ -80,7 +80,7 @@ ranksCode (ranks.Refused c) = rankCode 2 c 0 0
 -- ---- a plan and an interval, as C gives them
 
 abbrev pub planIn : ℕ → ℕ → ℕ → Plan
-planIn t S n = record { total = t; slots = S; partitions = n }
+planIn t slots n = record { total = t; slots = slots; partitions = n }
 
 abbrev pub spanIn : Bool → ℤ → ℤ → Span
 spanIn hasHigh lo hi = cond hasHigh (span.Between lo hi) (span.From lo)
