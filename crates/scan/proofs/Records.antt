@@ -16,7 +16,7 @@ use Rattle.document.specs.declared.answer.Listing.{Listing}
 use Rattle.layout.specs.Mem.{Mem}
 use Rattle.calls.specs.Counts.{entriesOk}
 use Rattle.calls.specs.Range.{anyBy}
-use Rattle.calls.specs.Iteration.{Filled, to, bad, fillFrom, lastId, ended, marked, recordBy, fromZero, iterBy}
+use Rattle.calls.specs.Iteration.{to, fillFrom, lastId, ended, marked, recordBy, fromZero, iterBy}
 use Rattle.scan.specs.Turns.{filled}
 use Rattle.scan.specs.declared.listing.Step.{Step}
 use Rattle.scan.specs.declared.listing.Step.the-variants.{To, Bad}

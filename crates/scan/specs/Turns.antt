@@ -1,5 +1,5 @@
 -- What one turn of a run says.
-use mathlib.Core.Bool.{Bool, true, false, not}
+use mathlib.Core.Bool.{Bool, false, not}
 use mathlib.Core.List.{List}
 use lib.IntN.{ℤ}
 use Rattle.document.specs.declared.answer.Truth.{Truth}

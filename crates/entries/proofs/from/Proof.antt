@@ -1,9 +1,7 @@
 -- Below D by index, past it by search. Assumes nothing.
-use mathlib.Core.Path.{ap}
 use mathlib.Core.List.{List}
 use Prim.Native.Nat.{ℕ, _≤_}
 use native.Mathlib.Omega.{arith}
-use Rattle.document.specs.declared.sizes.Sizes.{Sizes}
 use Rattle.layout.specs.Mem.{mem}
 use Rattle.layout.specs.Sizes.{overCount}
 use Rattle.entries.proofs.Runs.{run, from-small, from-direct, from-over}

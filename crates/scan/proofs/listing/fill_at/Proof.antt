@@ -1,5 +1,5 @@
 -- Nothing from no part; a row's offsets, a page's bits. Assumes nothing.
-use mathlib.Core.Path.{_≡_, refl, sym, _∙_}
+use mathlib.Core.Path.{sym, _∙_}
 use native.Mathlib.Omega.{arith}
 use lib.ListN.{length, getD}
 use Rattle.numbers.proofs.Powers.{powers}

@@ -1,6 +1,5 @@
 -- A chunk id that is no chunk's; a word of 0; else the ids of the chunk. Assumes nothing.
 use mathlib.Core.Path.{_≡_}
-use Prim.Native.Nat.{_-_, _≤_}
 use native.Mathlib.Omega.{arith}
 use Rattle.document.specs.Sizes.{lastChunk}
 use Rattle.layout.specs.Mem.{Mem, memOf}

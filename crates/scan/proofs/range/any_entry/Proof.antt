@@ -1,6 +1,5 @@
 -- A word of 0 is no part; else by the part that the word names, between the offsets at which the chunk is clipped. Assumes nothing.
 use mathlib.Core.Path.{_∙_}
-use native.Mathlib.Omega.{arith}
 use Rattle.layout.specs.Mem.{Mem, memOf}
 use Rattle.entries.proofs.Runs.{Run, run}
 use Rattle.scan.proofs.Clips.{shift-is, below-is}
