@@ -1,8 +1,8 @@
 // What is written: each function takes the bytes that wait, in `out`, and how many they are, and answers how many wait then.
+use codes::answer::Answer;
 use document::plan::Plan;
 use document::plan::Ranks;
 use document::plan::Span;
-use exports::answer::Answer;
 use libc::STDOUT_FILENO;
 use lines::signs;
 
