@@ -24,7 +24,7 @@ use Rattle.numbers.specs.Budget.{slotsForBudget, fileBoundedMaxId}
 use Rattle.layout.specs.SetUp.{sizesOf}
 use Rattle.contracts.specs.Does.{Does, Answers, SetsUp}
 use Rattle.cuts.specs.Promise.{Plans}
-use Rattle.exports.specs.Codes.{Coded, outcomeCode, truthCode, amountCode, perhapsCode, planningCode, spannedCode, ranksCode, planIn, spanIn}
+use Rattle.codes.specs.Codes.{Coded, outcomeCode, truthCode, amountCode, perhapsCode, planningCode, spannedCode, ranksCode, planIn, spanIn}
 use Rattle.promises.proofs.Ensures.{four, two, Ensures}
 use Rattle.exports.proofs.change.bp_set_up as bp_set_up
 use Rattle.exports.proofs.change.bp_set_if_new as bp_set_if_new

@@ -1,8 +1,8 @@
 // What is written.
-use exports::answer::Answer;
-use exports::cut::IdsAnswer;
-use exports::cut::PlanAnswer;
-use exports::cut::RanksAnswer;
+use codes::answer::Answer;
+use codes::cut::IdsAnswer;
+use codes::cut::PlanAnswer;
+use codes::cut::RanksAnswer;
 use libc::STDOUT_FILENO;
 use lines::signs;
 use lines::words;

@@ -23,11 +23,11 @@ use Rattle.document.specs.declared.plan.Spanned.{Spanned}
 use Rattle.document.specs.declared.plan.Spanned.the-variants as spanned
 use Rattle.document.specs.declared.plan.Ranks.{Ranks}
 use Rattle.document.specs.declared.plan.Ranks.the-variants as ranks
-use Rattle.exports.specs.declared.answer.Answer.{Answer}
-use Rattle.exports.specs.declared.cut.PlanAnswer.{PlanAnswer}
-use Rattle.exports.specs.declared.cut.IdsAnswer.{IdsAnswer}
-use Rattle.exports.specs.declared.cut.RanksAnswer.{RanksAnswer}
-use Rattle.exports.specs.Codes.{outcomeCode, truthCode, amountCode, perhapsCode, planningCode, spannedCode, ranksCode, planIn, spanIn, Coded}
+use Rattle.codes.specs.declared.answer.Answer.{Answer}
+use Rattle.codes.specs.declared.cut.PlanAnswer.{PlanAnswer}
+use Rattle.codes.specs.declared.cut.IdsAnswer.{IdsAnswer}
+use Rattle.codes.specs.declared.cut.RanksAnswer.{RanksAnswer}
+use Rattle.codes.specs.Codes.{outcomeCode, truthCode, amountCode, perhapsCode, planningCode, spannedCode, ranksCode, planIn, spanIn, Coded}
 
 -- ---- reading a code
 

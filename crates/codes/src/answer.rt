@@ -1,6 +1,6 @@
 // An answer for C: one definition for each kind of answer gives document 01's number and values, case by case.
 ghost use mathlib.Core.Path.{_≡_};
-ghost use Rattle.exports.specs.Codes.{outcomeCode, truthCode, amountCode, perhapsCode};
+ghost use Rattle.codes.specs.Codes.{outcomeCode, truthCode, amountCode, perhapsCode};
 use document::answer::Amount;
 use document::answer::Outcome;
 use document::answer::Perhaps;

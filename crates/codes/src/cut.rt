@@ -1,6 +1,6 @@
 // A plan's answers for C: one definition for each kind of answer gives document 01's number and values, case by case.
 ghost use mathlib.Core.Path.{_≡_};
-ghost use Rattle.exports.specs.Codes.{planningCode, spanCode, spannedCode, ranksCode};
+ghost use Rattle.codes.specs.Codes.{planningCode, spanCode, spannedCode, ranksCode};
 use document::plan::Planning;
 use document::plan::Ranks;
 use document::plan::Span;

@@ -20,10 +20,10 @@ use Rattle.document.specs.declared.plan.Spanned.{Spanned}
 use Rattle.document.specs.declared.plan.Spanned.the-variants as spanned
 use Rattle.document.specs.declared.plan.Ranks.{Ranks}
 use Rattle.document.specs.declared.plan.Ranks.the-variants as ranks
-use Rattle.exports.specs.declared.answer.Answer.{Answer}
-use Rattle.exports.specs.declared.cut.PlanAnswer.{PlanAnswer}
-use Rattle.exports.specs.declared.cut.IdsAnswer.{IdsAnswer}
-use Rattle.exports.specs.declared.cut.RanksAnswer.{RanksAnswer}
+use Rattle.codes.specs.declared.answer.Answer.{Answer}
+use Rattle.codes.specs.declared.cut.PlanAnswer.{PlanAnswer}
+use Rattle.codes.specs.declared.cut.IdsAnswer.{IdsAnswer}
+use Rattle.codes.specs.declared.cut.RanksAnswer.{RanksAnswer}
 
 abbrev pub code : ℕ → ℕ → Answer
 code k v = record { kind = k; value = v }

@@ -1,9 +1,9 @@
 -- Case by case. Assumes nothing.
 use mathlib.Core.Path.{ap, sym}
-use Rattle.exports.specs.Codes.{outcomeCode}
+use Rattle.codes.specs.Codes.{outcomeCode}
 use borrow.Author.Needs.{needs}
-use Rattle.exports.proofs.answer.of_outcome.Statement.{statement}
-use Rattle.exports.proofs.answer.of_outcome.Tie as tie
+use Rattle.codes.proofs.answer.of_outcome.Statement.{statement}
+use Rattle.codes.proofs.answer.of_outcome.Tie as tie
 
 enum-told : tie.Need-enum-told
 enum-told c = search needs

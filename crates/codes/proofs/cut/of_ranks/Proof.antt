@@ -1,9 +1,9 @@
 -- Case by case. Assumes nothing.
 use mathlib.Core.Path.{ap, sym}
-use Rattle.exports.specs.Codes.{ranksCode}
+use Rattle.codes.specs.Codes.{ranksCode}
 use borrow.Author.Needs.{needs}
-use Rattle.exports.proofs.cut.of_ranks.Statement.{statement}
-use Rattle.exports.proofs.cut.of_ranks.Tie as tie
+use Rattle.codes.proofs.cut.of_ranks.Statement.{statement}
+use Rattle.codes.proofs.cut.of_ranks.Tie as tie
 
 enum-known-a : tie.Need-enum-known-a
 enum-known-a c = search needs
