@@ -100,6 +100,12 @@ module _ {A R : Type 0} (code : A → R) where
   pub coded-at : (says : ℤ → A → Type 0) (z : ℤ) → SFits w64 z → (r : R) (a : A) → r ≡ code a → says (toZ w64 (ofZ w64 z)) a → Coded code (says z) r
   coded-at says z f r a e h = coded-by (says z) r a e (subst (λ (i : ℤ). says i a) (toZ-ofZ f) h)
 
+  -- and on two
+  pub coded-between : (says : ℤ → ℤ → A → Type 0) (y z : ℤ) → SFits w64 y → SFits w64 z → (r : R) (a : A) → r ≡ code a
+      → says (toZ w64 (ofZ w64 y)) (toZ w64 (ofZ w64 z)) a → Coded code (says y z) r
+  coded-between says y z f g r a e h =
+      coded-at (λ (i : ℤ) (b : A). says i z b) y f r a e (subst (λ (i : ℤ). says (toZ w64 (ofZ w64 y)) i a) (toZ-ofZ g) h)
+
   -- and one that changes memory
   pub coded-into : (says : ℤ → A → Mem → Type 0) (z : ℤ) → SFits w64 z → (r : R) (a : A) (y : Mem) → r ≡ code a → says (toZ w64 (ofZ w64 z)) a y → Coded code (λ (b : A). says z b y) r
   coded-into says z f r a y e h = coded-at (λ (i : ℤ) (b : A). says i b y) z f r a e h
@@ -107,3 +113,7 @@ module _ {A R : Type 0} (code : A → R) where
 -- what an entry answers is the wrapped call's answer, read back
 pub coded-back : {A R : Type 0} (code : A → R) (back : R → A) → ((a : A) → back (code a) ≡ a) → (says : A → Type 0) (r : R) → Coded code says r → says (back r)
 coded-back code back inverse says r h = subst says (sym (ap back (h .coded) ∙ inverse (h .answer))) (h .said)
+
+-- an answer that is C's own as it stands, to a call on an id
+pub told-at : {B : Type 0} (says : ℤ → B → Type 0) (z : ℤ) → SFits w64 z → (b : B) → says (toZ w64 (ofZ w64 z)) b → says z b
+told-at says z f b h = subst (λ (i : ℤ). says i b) (toZ-ofZ f) h

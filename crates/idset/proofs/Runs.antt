@@ -11,6 +11,7 @@ use Rattle.dense.specs.Bits.{bitsTo, anyIn}
 use Rattle.dense.proofs.Counts.{bits-zero, bits-le}
 use Rattle.numbers.proofs.Powers.{powers}
 use Rattle.layout.specs.Mem.{Mem}
+use Rattle.layout.specs.Sizes.{head}
 use Rattle.layout.specs.declared.find.Spot.{Spot}
 use Rattle.layout.specs.declared.find.Spot.the-variants.{Nowhere, Row, Page, Bad}
 use Rattle.calls.specs.Reading.{spotBy}

@@ -4,6 +4,7 @@ use native.Mathlib.Omega.{arith}
 use lib.ListN.{length, getD}
 use Rattle.numbers.proofs.Powers.{powers}
 use Rattle.layout.specs.Mem.{Mem, memOf}
+use Rattle.layout.specs.Sizes.{head}
 use Rattle.layout.proofs.Lent.{length-lent}
 use Rattle.calls.proofs.Spots.{InRows, InPages, spot-row, spot-page, offset-bit}
 use Rattle.scan.proofs.Ranges.{any-spot, any-row, any-page}
@@ -78,7 +79,12 @@ part-any-in-end-2 : tie.Need-part-any-in-end-2
 part-any-in-end-2 c = page-is c .inside
 
 any-in-requires-2 : tie.Need-any-in-requires-2
-any-in-requires-2 c κs = let a = in-page (c .before) in offset-in (memory a .pages) (getD (memory a .table) 0 0) _ _ _ _ (a .pre .0) (a .pre .1) (a .pre .3) refl (page-is (c .before))
+any-in-requires-2 c κs =
+    let a = in-page (c .before) in
+    let p = page-is (c .before) in
+    let e = length-lent (memory a .pages) _ _ (p .inside) in
+    let o = offset-bit (head (memory a) .s) (head (memory a) .s) (length (memory a .pages)) _ _ (a .args .b) (a .pre .0) (a .pre .1) refl (a .pre .3) p in
+    omega arith
 
 enum-told-2 : tie.Need-enum-told-2
 enum-told-2 c = search needs
