@@ -21,10 +21,9 @@ fn on(
     c: &mut [i64],
 ) {
     match v {
-        18 => memory::dump(p, r, b, t, c),
+        0..=7 => say::answer(v, call::changes(v, line, p, r, b, t)),
         19 => partition::plan(line, p, r, b, t, c),
-        20..=22 => partition::call(v, line, c),
-        _ => call::changes(v, line, p, r, b, t),
+        _ => call::reads(v, line, p, r, b, t, c),
     }
 }
 

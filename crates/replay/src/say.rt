@@ -12,7 +12,7 @@ pub fn text(bytes: &[u8]) {
 }
 
 // A number, after some text.
-fn number(before: &[u8], n: u64) {
+pub fn number(before: &[u8], n: u64) {
     text(before);
     io::print_decimal(STDOUT_FILENO, n);
 }
@@ -48,29 +48,26 @@ pub fn is(b: bool) {
     word(b"false true", b as u64);
 }
 
-// A refusal, or the word that the value says.
-fn told(a: Answer, words: &[u8]) {
+// What a call answers, by its verb: kind 2 is a refusal, and 3 stands for no call.
+pub fn answer(v: u64, a: Answer) {
     if a.kind == 2 {
         value(b"refused ", a.value);
-    } else {
-        word(words, a.value);
+        return;
     }
-}
-
-pub fn done(a: Answer) {
-    told(a, b"ok");
-}
-
-pub fn truth(a: Answer) {
-    told(a, b"false true");
-}
-
-// A number, or none.
-pub fn amount(a: Answer) {
-    if a.kind == 1 {
-        value(b"", a.value);
-    } else {
-        told(a, b"none");
+    if a.kind == 3 {
+        text(b"bad\n");
+        return;
+    }
+    match v {
+        0..=5 => text(b"ok\n"),
+        6..=10 => word(b"false true", a.value),
+        _ => {
+            if a.kind == 1 {
+                value(b"", a.value);
+            } else {
+                text(b"none\n");
+            }
+        }
     }
 }
 

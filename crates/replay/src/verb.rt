@@ -43,18 +43,19 @@ fn fits(line: &[u8], kinds: &[u8]) -> bool {
     ok
 }
 
-// A verb is its place among these names, ten to a row; below them are the kinds of the words that follow each. Any other line has a verb that no call has.
+// A verb is its place among these names, ten to a row; the same rows below have the kinds of the words that follow it.
+// Any other line has a verb that no call has.
 pub fn of(line: &[u8]) -> u64 {
     let v = words::named(
         line,
         0,
-        b"get chunk rank rankif empty has len chunks total check \
-        set new put prepare rankup open setup poke dump plan \
+        b"set prepare rankup open setup poke new put get empty \
+        has chunk rank rankif len chunks total check dump plan \
         part in meets slots bounded",
     );
     let kinds = words::word(
-        b"ki ki ki ki k k k k k k \
-        ki ki ki ki k k knnnnnn knnn k knr \
+        b"ki ki k k knnnnnn knnn ki ki ki k \
+        k ki ki ki k k k k k knr \
         knnnrn knnnrni knnnrnii n inn",
         v,
     );

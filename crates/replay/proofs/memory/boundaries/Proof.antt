@@ -1,5 +1,4 @@
--- Each turn uses up one element, and the slice keeps its length. Assumes nothing.
-use mathlib.Core.Path.{_≡_}
+-- Each turn uses up one element. Assumes nothing.
 use Prim.Native.Nat.{_-_}
 use borrow.Author.Needs.{needs}
 use lib.ListN.{length}
@@ -7,22 +6,25 @@ use Rattle.replay.proofs.memory.boundaries.Statement.{statement}
 use Rattle.replay.proofs.memory.boundaries.Tie as tie
 
 abbrev Inv-loop : tie.InvT-loop
-Inv-loop out₀ w c now₀ i₀ out now i = length out ≡ length out₀
+Inv-loop some c now₀ i₀ now i = Unit {0}
 
 abbrev μ-loop : tie.MeasureT-loop
-μ-loop out₀ w c now₀ i₀ out now i = length c - i
+μ-loop some c now₀ i₀ now i = length c - i
 
 loop-holds : tie.Need-loop-holds Inv-loop μ-loop
 loop-holds c = search needs
 
-mul-boundary : tie.Need-mul-boundary Inv-loop μ-loop
-mul-boundary c = search needs
+mul-z : tie.Need-mul-z Inv-loop μ-loop
+mul-z c = search needs
 
-shared-slice-copy-out-boundary : tie.Need-shared-slice-copy-out-boundary Inv-loop μ-loop
-shared-slice-copy-out-boundary c = search needs
+shared-slice-copy-out-z : tie.Need-shared-slice-copy-out-z Inv-loop μ-loop
+shared-slice-copy-out-z c = search needs
 
-boundary-requires : tie.Need-boundary-requires Inv-loop μ-loop
-boundary-requires c κs = search needs
+magnitude-requires : tie.Need-magnitude-requires Inv-loop μ-loop
+magnitude-requires c κs = search needs
+
+element-requires : tie.Need-element-requires Inv-loop μ-loop
+element-requires c κs = search needs
 
 add-i : tie.Need-add-i Inv-loop μ-loop
 add-i c = search needs
@@ -32,9 +34,6 @@ loop-less c = search needs
 
 loop-again : tie.Need-loop-again Inv-loop μ-loop
 loop-again c = search needs
-
-same-length : tie.Need-same-length Inv-loop μ-loop
-same-length c = search needs
 
 returns : tie.Need-returns Inv-loop μ-loop
 returns c = search needs
@@ -46,11 +45,11 @@ boundaries-spec =
     Inv-loop
     μ-loop
     loop-holds
-    mul-boundary
-    shared-slice-copy-out-boundary
-    boundary-requires
+    mul-z
+    shared-slice-copy-out-z
+    magnitude-requires
+    element-requires
     add-i
     loop-less
     loop-again
-    same-length
     returns)

@@ -1,5 +1,4 @@
--- Each turn uses up one element, and the slice keeps its length. Assumes nothing.
-use mathlib.Core.Path.{_≡_}
+-- Each turn uses up one element. Assumes nothing.
 use Prim.Native.Nat.{_-_}
 use borrow.Author.Needs.{needs}
 use lib.ListN.{length}
@@ -7,16 +6,13 @@ use Rattle.replay.proofs.memory.elements.Statement.{statement}
 use Rattle.replay.proofs.memory.elements.Tie as tie
 
 abbrev Inv-loop : tie.InvT-loop
-Inv-loop out₀ w name pool now₀ i₀ t7 out now i = length out ≡ length out₀
+Inv-loop some name pool now₀ i₀ now i = Unit {0}
 
 abbrev μ-loop : tie.MeasureT-loop
-μ-loop out₀ w name pool now₀ i₀ t7 out now i = length pool - i
+μ-loop some name pool now₀ i₀ now i = length pool - i
 
 loop-holds : tie.Need-loop-holds Inv-loop μ-loop
 loop-holds c = search needs
-
-slice-aggregate-element : tie.Need-slice-aggregate-element Inv-loop μ-loop
-slice-aggregate-element c = search needs
 
 mul-element : tie.Need-mul-element Inv-loop μ-loop
 mul-element c = search needs
@@ -36,9 +32,6 @@ loop-less c = search needs
 loop-again : tie.Need-loop-again Inv-loop μ-loop
 loop-again c = search needs
 
-same-length : tie.Need-same-length Inv-loop μ-loop
-same-length c = search needs
-
 returns : tie.Need-returns Inv-loop μ-loop
 returns c = search needs
 
@@ -49,12 +42,10 @@ elements-spec =
     Inv-loop
     μ-loop
     loop-holds
-    slice-aggregate-element
     mul-element
     shared-slice-read-element
     element-requires
     add-i
     loop-less
     loop-again
-    same-length
     returns)

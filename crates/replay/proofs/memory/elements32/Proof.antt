@@ -1,5 +1,4 @@
--- Each turn uses up one element, and the slice keeps its length. Assumes nothing.
-use mathlib.Core.Path.{_≡_}
+-- Each turn uses up one element. Assumes nothing.
 use Prim.Native.Nat.{_-_}
 use borrow.Author.Needs.{needs}
 use native.Mathlib.Omega.{arith}
@@ -8,16 +7,13 @@ use Rattle.replay.proofs.memory.elements32.Statement.{statement}
 use Rattle.replay.proofs.memory.elements32.Tie as tie
 
 abbrev Inv-loop : tie.InvT-loop
-Inv-loop out₀ w name pool now₀ i₀ t7 out now i = length out ≡ length out₀
+Inv-loop some name pool now₀ i₀ now i = Unit {0}
 
 abbrev μ-loop : tie.MeasureT-loop
-μ-loop out₀ w name pool now₀ i₀ t7 out now i = length pool - i
+μ-loop some name pool now₀ i₀ now i = length pool - i
 
 loop-holds : tie.Need-loop-holds Inv-loop μ-loop
 loop-holds c = search needs
-
-slice-aggregate-element : tie.Need-slice-aggregate-element Inv-loop μ-loop
-slice-aggregate-element c = search needs
 
 mul-element : tie.Need-mul-element Inv-loop μ-loop
 mul-element c = search needs
@@ -26,7 +22,7 @@ shared-slice-read-element : tie.Need-shared-slice-read-element Inv-loop μ-loop
 shared-slice-read-element c = search needs
 
 cast-element : tie.Need-cast-element Inv-loop μ-loop
-cast-element c = omega (arith, c .shared-slice-known3 .given (c .before .before .before .before .loop .i))
+cast-element c = omega (arith, c .shared-slice-known2 .given (c .before .before .loop .i))
 
 element-requires : tie.Need-element-requires Inv-loop μ-loop
 element-requires c κs = search needs
@@ -40,9 +36,6 @@ loop-less c = search needs
 loop-again : tie.Need-loop-again Inv-loop μ-loop
 loop-again c = search needs
 
-same-length : tie.Need-same-length Inv-loop μ-loop
-same-length c = search needs
-
 returns : tie.Need-returns Inv-loop μ-loop
 returns c = search needs
 
@@ -53,7 +46,6 @@ elements32-spec =
     Inv-loop
     μ-loop
     loop-holds
-    slice-aggregate-element
     mul-element
     shared-slice-read-element
     cast-element
@@ -61,5 +53,4 @@ elements32-spec =
     add-i
     loop-less
     loop-again
-    same-length
     returns)
