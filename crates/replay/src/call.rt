@@ -3,7 +3,7 @@ use crate::memory;
 use crate::partition;
 use crate::say;
 use crate::verb;
-use exports::answer::Answer;
+use codes::answer::Answer;
 use exports::change;
 use exports::number;
 use exports::read;
@@ -67,6 +67,13 @@ fn bounded(line: &[u8]) {
     say::signed(number::bp_file_bounded_max_id(claim, length, per));
 }
 
+// `any K min max`, said as `get` is
+fn any(line: &[u8], p: &[u64], r: &[u32], b: &[u32], t: &[u64]) {
+    let min = words::id_or(line, 2, 0);
+    let max = words::id_or(line, 3, 0);
+    say::answer(8, read::bp_any_in_range(p, r, b, t, min, max));
+}
+
 // What changes nothing.
 pub fn reads(v: u64, line: &[u8], p: &[u64], r: &[u32], b: &[u32], t: &[u64], c: &[i64]) {
     match v {
@@ -78,6 +85,8 @@ pub fn reads(v: u64, line: &[u8], p: &[u64], r: &[u32], b: &[u32], t: &[u64], c:
             number::bp_slots_for_budget(words::number_or(line, 1, 0)),
         ),
         24 => bounded(line),
+        25 => any(line, p, r, b, t),
+        26 => say::listing(read::bp_iter_from(p, r, b, t, words::id_or(line, 2, 0))),
         _ => say::answer(v, asks(v, words::id_or(line, 2, 0), p, r, b, t)),
     }
 }

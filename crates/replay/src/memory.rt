@@ -1,6 +1,6 @@
 // The elements of a set's pools, one by one: to make memory that no call made, and to see what calls left.
 use crate::say;
-use exports::answer::Answer;
+use codes::answer::Answer;
 use lines::signs;
 use lines::words;
 

@@ -1,7 +1,7 @@
 // Plans, and the calls on a partition: number k, word 6, of the record that words 2 to 4 are, with as many of a set's boundaries as word 5 says.
 use crate::say;
 use crate::verb;
-use exports::cut::IdsAnswer;
+use codes::cut::IdsAnswer;
 use exports::partition;
 use lines::words;
 

@@ -3,6 +3,7 @@ use codes::answer::Answer;
 use codes::cut::IdsAnswer;
 use codes::cut::PlanAnswer;
 use codes::cut::RanksAnswer;
+use document::answer::Listing;
 use libc::STDOUT_FILENO;
 use lines::signs;
 use lines::words;
@@ -71,18 +72,33 @@ pub fn answer(v: u64, a: Answer) {
     }
 }
 
-// The boundaries of n partitions, one less than they are.
-fn boundaries(c: &[i64], n: u64) {
+// The first n ids of some.
+fn ids(c: &[i64], n: u64) {
     let mut i: usize = 0;
     while i < c.len() {
-        if (i as u64) + 1 < n {
+        if (i as u64) < n {
             id(b" ", c[i]);
         }
         i += 1;
     }
 }
 
-// A record, and its boundaries.
+// A record of iteration: count, end mark, next start, ids.
+pub fn listing(a: Listing) {
+    if a.refusal != 0 {
+        value(b"refused ", a.refusal);
+        return;
+    }
+    number(b"", a.count);
+    text(b" ");
+    text(words::word(b"false true", a.end as u64));
+    id(b" ", a.next);
+    let listed = a.ids;
+    ids(&listed, a.count);
+    text(b"\n");
+}
+
+// A record, and its boundaries, one less than the partitions.
 pub fn plan(a: PlanAnswer, c: &[i64]) {
     if a.kind == 2 {
         value(b"refused ", a.refusal);
@@ -91,7 +107,14 @@ pub fn plan(a: PlanAnswer, c: &[i64]) {
     number(b"", a.total);
     number(b" ", a.slots);
     number(b" ", a.partitions);
-    boundaries(c, a.partitions);
+    ids(
+        c,
+        if a.partitions == 0 {
+            0
+        } else {
+            a.partitions - 1
+        },
+    );
     text(b"\n");
 }
 

@@ -51,12 +51,12 @@ pub fn of(line: &[u8]) -> u64 {
         0,
         b"set prepare rankup open setup poke new put get empty \
         has chunk rank rankif len chunks total check dump plan \
-        part in meets slots bounded",
+        part in meets slots bounded any iter",
     );
     let kinds = words::word(
         b"ki ki k k knnnnnn knnn ki ki ki k \
         k ki ki ki k k k k k knr \
-        knnnrn knnnrni knnnrnii n inn",
+        knnnrn knnnrni knnnrnii n inn kii ki",
         v,
     );
     if fits(line, kinds) { v } else { u64::MAX }

@@ -1,9 +1,9 @@
--- Each turn uses up one boundary. Assumes nothing.
+-- Each turn uses up one id. Assumes nothing.
 use Prim.Native.Nat.{_-_}
 use borrow.Author.Needs.{needs}
 use lib.ListN.{length}
-use Rattle.replay.proofs.say.boundaries.Statement.{statement}
-use Rattle.replay.proofs.say.boundaries.Tie as tie
+use Rattle.replay.proofs.say.ids.Statement.{statement}
+use Rattle.replay.proofs.say.ids.Tie as tie
 
 abbrev Inv-loop : tie.InvT-loop
 Inv-loop c n i₀ t4 i = Unit {0}
@@ -13,9 +13,6 @@ abbrev μ-loop : tie.MeasureT-loop
 
 loop-holds : tie.Need-loop-holds Inv-loop μ-loop
 loop-holds c = search needs
-
-add-if1 : tie.Need-add-if1 Inv-loop μ-loop
-add-if1 c = search needs
 
 slice-aggregate-id : tie.Need-slice-aggregate-id Inv-loop μ-loop
 slice-aggregate-id c = search needs
@@ -41,14 +38,13 @@ loop-again c = search needs
 returns : tie.Need-returns Inv-loop μ-loop
 returns c = search needs
 
-pub boundaries-spec : {M : Type 1} → statement M
-boundaries-spec =
+pub ids-spec : {M : Type 1} → statement M
+ids-spec =
     tie.close
     (tie.spec
     Inv-loop
     μ-loop
     loop-holds
-    add-if1
     slice-aggregate-id
     mul-id
     shared-slice-copy-out-id
