@@ -18,7 +18,7 @@ pub fn partitions(p: Plan) -> u64
     p.partitions
 }
 
-// S is not 0, and the number of partitions is that of the total.
+// Slots are not 0, and the number of partitions is that of the total.
 fn record_ok(p: Plan) -> bool
     ensures { λ b. ⌜ b ≡ recordOk p ⌝ }
 {

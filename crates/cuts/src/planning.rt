@@ -1,4 +1,4 @@
-// Planning: boundaries go to a lent slice; total, S and partitions come back as a record.
+// Planning: boundaries go to a lent slice; total, slots and partitions come back as a record.
 ghost use mathlib.Core.Path.{_≡_};
 ghost use Prim.Native.Nat.{_*_, _^_, _<_};
 ghost use Rattle.sums.specs.Cuts.{size};
