@@ -1,10 +1,10 @@
 //! The rows of docs/EXCEPTIONS.md: which of them an answer on memory that the full check refuses falls under, by what is wrong with the part
 //! that the call looks at. Nothing wrong there: the answer is document 01's for that part, and is held against it.
-use crate::call::{Call, Record};
-use crate::library::{Answer, DONE, Memory, NONE, Sizes, refused, value};
+use crate::call::{Call, Record, Said, listed};
+use crate::library::{DONE, Memory, NONE, Sizes, refused, value};
 use crate::other;
 use crate::plain::Plain;
-use crate::second::{Word, page_owner_at, row_owner_at, standing, word};
+use crate::second::{Word, page_owner_at, row_owner_at, set_bits, standing, word};
 
 #[derive(Clone, Copy, PartialEq, Debug)]
 pub enum Row {
@@ -66,6 +66,20 @@ struct Free {
     named: bool,
     filled: bool,
     passed: bool,
+}
+
+/// What a range test or iteration looks at, one entry after the other, and the ids that it finds.
+struct Looked<'a> {
+    entries: &'a [Entry],
+    ids: Vec<i64>,
+    /// Whether the chunk ids that it goes by rise.
+    rising: bool,
+}
+
+impl Looked<'_> {
+    fn any(&self, is: impl Fn(&Entry) -> bool) -> bool {
+        self.entries.iter().any(is)
+    }
 }
 
 /// Memory that breaks a rule, and what is wrong with which part of it.
@@ -201,13 +215,22 @@ impl Bad {
         }
     }
 
+    fn offsets(&self, x: &Memory, w: Word) -> Vec<u32> {
+        match w {
+            Word::Absent => vec![],
+            Word::Row(r, n) => row(x, self.z.m, r, n).unwrap_or_default().to_vec(),
+            Word::Page(p) => page(x, self.s, p).map_or(vec![], set_bits),
+        }
+    }
+
     /// The row that this answer falls under, or what is wrong with it.
-    pub fn row_of(&self, x: &Memory, call: Call, a: Answer) -> Result<Row, String> {
+    pub fn row_of(&self, x: &Memory, call: Call, said: Said) -> Result<Row, String> {
         let name = match call {
             Call::Get(id) | Call::Set(id) | Call::SetIfNew(id) | Call::SetPrepared(id) | Call::Rank(id) | Call::RankIfSet(id) if id >= 0 => {
                 self.of_a_chunk(x, call, id as u64)
             }
             Call::Len | Call::IsEmpty | Call::HasAny | Call::Chunks => self.of_counts(call),
+            Call::Any(..) | Call::Iter(_) => self.looked(x, call).map_or(Row::Negative, |looked| self.of_looked(&looked, call)),
             Call::TotalCount if self.breaks(&[15]) => Row::Total,
             Call::PreAllocate(max) if max >= 0 => self.of_rows_and(Row::FreePage, self.breaks(&[12])),
             Call::IntoRanked => self.of_rows_and(Row::WrittenOver, self.breaks(&[14, 15, 16])),
@@ -216,19 +239,23 @@ impl Bad {
             Call::ChunkOf(id) if id < 0 => Row::Negative,
             _ => self.beside(),
         };
-        let wanted = if name.exact() { self.exact(x, call) } else { None };
-        if wanted.is_none_or(|w| w == a) { Ok(name) } else { Err(format!("{a:?} and not {wanted:?} with nothing wrong where it looks ({name:?})")) }
+        let wanted = match call {
+            Call::Any(..) | Call::Iter(_) => self.found(x, call),
+            _ if name.exact() => self.exact(x, call),
+            _ => None,
+        };
+        if wanted.is_none_or(|w| w == said) { Ok(name) } else { Err(format!("{said:?} and not {wanted:?} under the row {}", name.name())) }
     }
 
     /// The answer of a call that walks the table first: 3 where that finds something wrong, else that of the set that the table speaks of.
-    pub fn walking(&self, call: Call, lent: [usize; 4]) -> Option<Answer> {
-        let turn = |set: &Plain, from: bool, no: u64| if set.ranked == from { DONE } else { refused(no) };
+    pub fn walking(&self, call: Call, lent: [usize; 4]) -> Option<Said> {
+        let turn = |set: &Plain, from: bool, no: u64| if set.ranked == from { DONE } else { refused(no) }.into();
         let of = |set: &Plain| match call {
             Call::IntoRanked => turn(set, false, 4),
             Call::IntoOpen => turn(set, true, 5),
             _ => set.clone().call(call, lent),
         };
-        matches!(call, Call::PreAllocate(_) | Call::IntoRanked | Call::IntoOpen).then(|| self.walked.as_ref().map_or(refused(3), of))
+        matches!(call, Call::PreAllocate(_) | Call::IntoRanked | Call::IntoOpen).then(|| self.walked.as_ref().map_or(call.refused(3), of))
     }
 
     /// Planning walks first too. With nothing wrong where it looks, its boundaries are those of that set.
@@ -290,6 +317,49 @@ impl Bad {
         }
     }
 
+    /// The entries from the low id's on, up to the high id's, until a range test has an id or iteration one more than its record holds. None where no id is asked for.
+    fn looked(&self, x: &Memory, call: Call) -> Option<Looked<'_>> {
+        let (low, high, most) = match call {
+            Call::Any(min, max) if min <= max && max >= 0 => (min.max(0), max, 1),
+            Call::Iter(start) => (start.max(0), i64::MAX, 65),
+            _ => return None,
+        };
+        let (from, mut ids) = (self.place(low as u64 >> self.s).0, vec![]);
+        let mut to = from;
+        while let Some(e) = self.entries.get(to).filter(|e| ids.len() < most && e.chunk <= high as u64 >> self.s) {
+            let all = self.offsets(x, e.word).into_iter().filter(|&o| o < 1 << self.s).map(|o| (e.chunk << self.s | u64::from(o)) as i64);
+            ids.extend(all.filter(|id| (low..=high).contains(id)));
+            to += 1;
+        }
+        let (entries, reads_overflow) = (&self.entries[from..to], to > self.direct || to == self.direct && ids.len() < most);
+        let rising = entries.is_sorted_by(|a, b| a.chunk < b.chunk) && (self.rising || !reads_overflow);
+        Some(Looked { entries, ids, rising })
+    }
+
+    fn of_looked(&self, looked: &Looked, call: Call) -> Row {
+        match () {
+            _ if !looked.rising => Row::Order,
+            _ if looked.any(|e| e.chunk >= self.direct as u64 && matches!(e.word, Word::Absent)) => Row::EmptyEntry,
+            _ if looked.any(|e| matches!(e.word, Word::Row(_, 0))) => Row::NoLength,
+            _ if looked.any(|e| e.shared) => Row::Shared,
+            _ if looked.any(|e| !e.owner) => Row::Owner,
+            _ if looked.any(|e| e.falling) => Row::Falling,
+            _ if looked.any(|e| e.far) && matches!(call, Call::Iter(_)) => Row::Far,
+            _ => self.beside(),
+        }
+    }
+
+    /// What a range test or iteration says by the entries that it looks at, unless that hangs on a search, or an offset is listed as another. Holds for every row.
+    fn found(&self, x: &Memory, call: Call) -> Option<Said> {
+        let Some(looked) = self.looked(x, call) else { return Some(value(0).into()) };
+        let hangs = !looked.rising || looked.any(|e| e.falling);
+        match call {
+            _ if hangs => None,
+            Call::Iter(start) => (!looked.any(|e| e.far)).then(|| listed(&looked.ids, start)),
+            _ => Some(value((!looked.ids.is_empty()).into()).into()),
+        }
+    }
+
     fn of_a_chunk(&self, x: &Memory, call: Call, id: u64) -> Row {
         let (c, o) = (id >> self.s, id % (1 << self.s));
         let (at, entry) = self.place(c);
@@ -328,13 +398,13 @@ impl Bad {
     }
 
     /// Document 01's answer by the part that the call looks at. Counts and chunk ids are held in other.rs, for every row.
-    fn exact(&self, x: &Memory, call: Call) -> Option<Answer> {
+    fn exact(&self, x: &Memory, call: Call) -> Option<Said> {
         let at = |id: i64| {
             let (at, entry) = self.place(id as u64 >> self.s);
             let (has, below) = self.slot(x, entry.map_or(Word::Absent, |e| e.word), id as u64 % (1 << self.s));
             (id >= 0 && has, if id < 0 { 0 } else { self.entries.get(at).map_or(self.members, |e| e.before) + below })
         };
-        Some(match call {
+        let answer = match call {
             Call::Get(id) => value(at(id).0.into()),
             Call::Set(_) | Call::PreAllocate(_) | Call::IntoRanked | Call::IntoOpen => DONE,
             Call::SetIfNew(id) => value((id >= 0 && !at(id).0).into()),
@@ -342,6 +412,7 @@ impl Bad {
             Call::Rank(id) => value(at(id).1),
             Call::RankIfSet(id) => if at(id).0 { value(at(id).1) } else { NONE },
             _ => return None,
-        })
+        };
+        Some(answer.into())
     }
 }
