@@ -25,10 +25,10 @@ pub enum Call {
 }
 
 /// What a call says: an answer, or iteration's record.
-#[derive(Clone, Copy, PartialEq, Debug)]
+#[derive(Clone, PartialEq, Debug)]
 pub enum Said {
     Short(Answer),
-    Listed(Listing),
+    Listed(Box<Listing>),
 }
 
 impl From<Answer> for Said {
@@ -37,8 +37,14 @@ impl From<Answer> for Said {
     }
 }
 
+impl From<Listing> for Said {
+    fn from(r: Listing) -> Said {
+        Said::Listed(Box::new(r))
+    }
+}
+
 impl Said {
-    pub fn refusal(self) -> Option<u64> {
+    pub fn refusal(&self) -> Option<u64> {
         match self {
             Said::Short(a) => (a.kind == 2).then_some(a.value),
             Said::Listed(r) => (r.refusal != 0).then_some(r.refusal),
@@ -50,11 +56,11 @@ impl Said {
 pub fn listed(found: &[i64], start: i64) -> Said {
     let (mut ids, count, end) = ([0; 64], found.len().min(64), found.len() <= 64);
     ids[..count].copy_from_slice(&found[..count]);
-    Said::Listed(Listing { ids, count: count as u64, end, next: if end { start } else { ids[63] + 1 }, refusal: 0 })
+    Listing { ids, count: count as u64, end, next: if end { start } else { ids[63] + 1 }, refusal: 0 }.into()
 }
 
 /// Whether a record's fields are in order: unused places 0, the next start the one given where the mark is set, else right after the last of 64 ids.
-fn in_order(r: Listing, start: i64) -> bool {
+fn in_order(r: &Listing, start: i64) -> bool {
     let rest = r.ids.get(r.count as usize..);
     let next = if r.end { Some(start) } else { r.ids[63].checked_add(1).filter(|_| r.count == 64) };
     rest.is_some_and(|rest| rest.iter().all(|&id| id == 0)) && next == Some(r.next)
@@ -106,7 +112,7 @@ impl Call {
             IsEmpty => x.bp_is_empty(),
             HasAny => x.bp_has_any(),
             Chunks => x.bp_allocated_chunk_count(),
-            Iter(start) => return Said::Listed(x.bp_iter_from(start)),
+            Iter(start) => return x.bp_iter_from(start).into(),
             IntoRanked => x.bp_into_ranked(),
             IntoOpen => x.bp_into_open(),
             Rank(id) => x.bp_rank(id),
@@ -138,21 +144,21 @@ impl Call {
     /// A refusal is a number alone: every other field is 0.
     pub fn refused(self, no: u64) -> Said {
         match self {
-            Iter(_) => Said::Listed(Listing { ids: [0; 64], count: 0, end: false, next: 0, refusal: no }),
+            Iter(_) => Listing { ids: [0; 64], count: 0, end: false, next: 0, refusal: no }.into(),
             _ => refused(no).into(),
         }
     }
 
-    pub fn allows(self, said: Said) -> bool {
+    pub fn allows(self, said: &Said) -> bool {
         let (kind, refusals) = self.answers();
         if let Some(no) = said.refusal() {
-            return refusals.contains(&no) && said == self.refused(no);
+            return refusals.contains(&no) && *said == self.refused(no);
         }
         match (said, kind) {
-            (Said::Short(a), Kind::Nothing) => a == DONE,
-            (Said::Short(a), Kind::YesNo) => a.kind == 1 && a.value <= 1,
-            (Said::Short(a), Kind::Number) => a.kind == 1,
-            (Said::Short(a), Kind::NumberOrNone) => a.kind == 1 || a == NONE,
+            (&Said::Short(a), Kind::Nothing) => a == DONE,
+            (&Said::Short(a), Kind::YesNo) => a.kind == 1 && a.value <= 1,
+            (&Said::Short(a), Kind::Number) => a.kind == 1,
+            (&Said::Short(a), Kind::NumberOrNone) => a.kind == 1 || a == NONE,
             (Said::Listed(r), Kind::Record(start)) => in_order(r, start),
             _ => false,
         }

@@ -62,8 +62,8 @@ pub fn every_call(g: &mut Random, x: &Memory, z: Sizes) -> Vec<Call> {
         let id = id(g, x, z);
         all.extend(Call::OF_AN_ID.map(|call| call(id)));
     }
-    all.extend([(); 3].map(|()| range(g, x, z)));
-    all.extend([Call::Iter(g.pick(&[0, i64::MIN])), Call::Iter(id(g, x, z))]);
+    let start = id(g, x, z);
+    all.extend([range(g, x, z), range(g, x, z), Call::Iter(g.pick(&[0, i64::MIN, start, start]))]);
     all.extend([Call::SetUp(sizes(g, z)), Call::SetUp(sizes(g, z))]);
     // in any order, since what a call made is sometimes kept for the next
     (1..all.len()).for_each(|k| all.swap(k, g.below(k as u64 + 1) as usize));

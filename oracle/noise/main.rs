@@ -107,32 +107,32 @@ impl Run {
     fn one(&mut self, g: &mut Random, call: Call, before: &Memory, judged: &mut Judged, work: &mut Memory) -> Said {
         let said = call.make(work);
         let same = work == before;
-        self.ensure(call.allows(said), format_args!("{said:?} is no answer of this call"), Some(call), before);
+        self.ensure(call.allows(&said), format_args!("{said:?} is no answer of this call"), Some(call), before);
         self.calls += 1;
         self.changes += u64::from(!same);
         if let Some(no) = said.refusal() {
             self.refusals[no as usize] += 1;
         }
-        self.goes_on[self.from as usize] += u64::from(matches!(said, Said::Listed(r) if r.refusal == 0 && !r.end));
+        self.goes_on[self.from as usize] += u64::from(matches!(&said, Said::Listed(r) if r.refusal == 0 && !r.end));
         self.ensure(same || (call.writes() && said.refusal().is_none()), format_args!("memory changed"), Some(call), before);
         if g.one_in(8) {
             let mut again = before.clone();
             self.ensure(call.make(&mut again) == said && again == *work, format_args!("not the same a second time"), Some(call), before);
         }
         match (call, judged) {
-            (_, Ok(set)) => self.followed(call, said, before, set, work),
-            (Call::SetUp(z), _) => self.set_up(z, said, before, work),
+            (_, Ok(set)) => self.followed(call, &said, before, set, work),
+            (Call::SetUp(z), _) => self.set_up(z, &said, before, work),
             (Call::Check, _) => (),
-            (_, Err(bad)) => self.elsewhere(call, said, before, bad, work),
+            (_, Err(bad)) => self.elsewhere(call, &said, before, bad, work),
         }
         said
     }
 
     /// On memory that follows the layout: the answer and the set after it.
-    fn followed(&self, call: Call, said: Said, before: &Memory, set: &mut Plain, work: &mut Memory) {
+    fn followed(&self, call: Call, said: &Said, before: &Memory, set: &mut Plain, work: &mut Memory) {
         let mut after = if call.writes() { Some(set.clone()) } else { None };
         let wanted = after.as_mut().unwrap_or(set).call(call, before.lent());
-        self.ensure(said == wanted, format_args!("{said:?} and not {wanted:?}"), Some(call), before);
+        self.ensure(*said == wanted, format_args!("{said:?} and not {wanted:?}"), Some(call), before);
         let Some(after) = after else { return };
         let sizes = after.sizes;
         let fine = if work == before { after == *set } else { work.bp_check() && second::read(work) == Ok(after) };
@@ -141,20 +141,20 @@ impl Run {
     }
 
     /// Set-up of memory that follows nothing.
-    fn set_up(&self, z: Sizes, said: Said, before: &Memory, work: &mut Memory) {
+    fn set_up(&self, z: Sizes, said: &Said, before: &Memory, work: &mut Memory) {
         let wanted = plain::set_up(z, before.lent()).map_or_else(refused, |()| DONE).into();
-        self.ensure(said == wanted, format_args!("{said:?} and not {wanted:?}"), Some(Call::SetUp(z)), before);
-        if said == DONE.into() {
+        self.ensure(*said == wanted, format_args!("{said:?} and not {wanted:?}"), Some(Call::SetUp(z)), before);
+        if *said == DONE.into() {
             let fine = work.bp_check() && second::read(work) == Ok(Plain::empty(z)) && past_stays(before, work, z.needs());
             self.ensure(fine, format_args!("not set up"), Some(Call::SetUp(z)), before);
         }
     }
 
     /// Any other call on memory that does not follow the layout: the answer has its row in docs/EXCEPTIONS.md. The elements past the sizes stay here too.
-    fn elsewhere(&mut self, call: Call, said: Said, before: &Memory, bad: &Bad, work: &Memory) {
+    fn elsewhere(&mut self, call: Call, said: &Said, before: &Memory, bad: &Bad, work: &Memory) {
         self.ensure(other::fits(before, call, said), format_args!("{said:?} is not in the exception list"), Some(call), before);
-        let wanted = bad.walking(call, before.lent());
-        self.ensure(wanted.is_none_or(|w| w == said), format_args!("{said:?} and not {wanted:?}"), Some(call), before);
+        let wanted = bad.walking(call, before.lent()).or_else(|| bad.running(before, call));
+        self.ensure(wanted.as_ref().is_none_or(|w| w == said), format_args!("{said:?} and not {wanted:?}"), Some(call), before);
         self.ensure(past_stays(before, work, bad.ends(before)), format_args!("an element past the sizes changed"), Some(call), before);
         if said.refusal().is_none() {
             self.under(bad.row_of(before, call, said), Some(call), before);

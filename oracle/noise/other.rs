@@ -10,7 +10,7 @@ struct Loose<'a> {
 }
 
 /// Whether the list has this answer. None of it is asked of set-up, which trusts nothing, or of the check.
-pub fn fits(x: &Memory, call: Call, said: Said) -> bool {
+pub fn fits(x: &Memory, call: Call, said: &Said) -> bool {
     let table = &x.table[..x.lent()[3]];
     match table.first() {
         _ if matches!(call, Call::SetUp(_) | Call::Check) => true,
@@ -18,7 +18,7 @@ pub fn fits(x: &Memory, call: Call, said: Said) -> bool {
             let v = Loose { x, table, s };
             v.mode_fits(call, said) && (said.refusal().is_some() || v.said_fits(call, said).unwrap_or(false))
         }
-        _ => said == call.refused(3),
+        _ => *said == call.refused(3),
     }
 }
 
@@ -42,7 +42,7 @@ impl Loose<'_> {
     }
 
     /// A call of the other mode is never accepted, and no mode above 1 by a call that asks for it.
-    fn mode_fits(&self, call: Call, said: Said) -> bool {
+    fn mode_fits(&self, call: Call, said: &Said) -> bool {
         let wanted = match call {
             Call::Set(_) | Call::SetIfNew(_) | Call::SetPrepared(_) | Call::PreAllocate(_) | Call::IntoRanked => 0,
             Call::Rank(_) | Call::RankIfSet(_) | Call::TotalCount | Call::IntoOpen => 1,
@@ -56,15 +56,15 @@ impl Loose<'_> {
     }
 
     /// None where the answer would need an element that isn't there.
-    fn said_fits(&self, call: Call, said: Said) -> Option<bool> {
+    fn said_fits(&self, call: Call, said: &Said) -> Option<bool> {
         match said {
-            Said::Short(a) => self.answer_fits(call, a),
+            &Said::Short(a) => self.answer_fits(call, a),
             Said::Listed(r) => self.listing_fits(r),
         }
     }
 
     /// Each id is one that an entry of its chunk lists, and where the record goes on, there is something to go on to.
-    fn listing_fits(&self, r: Listing) -> Option<bool> {
+    fn listing_fits(&self, r: &Listing) -> Option<bool> {
         let entries = self.entries()?;
         let lists = |id: i64| id >= 0 && entries.iter().any(|&(c, w)| c == id as u64 >> self.s && self.slot_lists(w, id as u64 % (1 << self.s)));
         Some(r.ids[..r.count as usize].iter().all(|&id| lists(id)) && (r.end || self.may_meet(r.next, i64::MAX)?))

@@ -54,6 +54,8 @@ struct Entry {
     prefix: u64,
     /// Members of the entries before it.
     before: u64,
+    /// Its part is not inside its pool.
+    outside: bool,
     shared: bool,
     owner: bool,
     falling: bool,
@@ -72,8 +74,9 @@ struct Free {
 struct Looked<'a> {
     entries: &'a [Entry],
     ids: Vec<i64>,
-    /// Whether the chunk ids that it goes by rise.
+    /// Whether the chunk ids that it goes by rise, and whether it ends at one that is past the range.
     rising: bool,
+    past: bool,
 }
 
 impl Looked<'_> {
@@ -89,6 +92,8 @@ pub struct Bad {
     z: Sizes,
     total: u64,
     entries: Vec<Entry>,
+    /// Whether all entries in use are within the sizes and inside the table.
+    entries_in: bool,
     direct: usize,
     rising: bool,
     members: u64,
@@ -151,7 +156,12 @@ impl Bad {
                     }
                     Word::Absent => (true, false, false),
                 };
-                Entry { chunk, word, prefix, before: first, shared: false, owner, falling, far }
+                let outside = match word {
+                    Word::Absent => false,
+                    Word::Row(r, n) => r >= z.r || z.m > 1024 || n > z.m || row(x, z.m, r, z.m).is_none(),
+                    Word::Page(p) => p >= z.p || page(x, s, p).is_none(),
+                };
+                Entry { chunk, word, prefix, before: first, outside, shared: false, owner, falling, far }
             })
             .collect();
         let slot = |e: &Entry| match e.word {
@@ -179,11 +189,12 @@ impl Bad {
         } else {
             (Free::default(), Free::default())
         };
+        let entries_in = z.s == s && z.d <= 262_144 && head(7) <= z.v.min(65_536) && 16 + 2 * z.d + 3 * head(7) <= t.len() as u64;
         let rising = entries[direct..].is_sorted_by(|a, b| a.chunk < b.chunk);
         let rises = entries.is_sorted_by(|a, b| a.prefix <= b.prefix) && entries.last().is_none_or(|e| e.prefix <= head(8)) && head(8) < 1 << 63;
         let walks = !broken.iter().any(|r| WALK.contains(r)) && (head(6) == 0 || rises);
         let walked = if walks { standing(x) } else { None };
-        Bad { broken, s, z, total: head(8), entries, direct, rising, members: before, row, page, walked }
+        Bad { broken, s, z, total: head(8), entries, entries_in, direct, rising, members: before, row, page, walked }
     }
 
     fn breaks(&self, rules: &[u8]) -> bool {
@@ -224,7 +235,7 @@ impl Bad {
     }
 
     /// The row that this answer falls under, or what is wrong with it.
-    pub fn row_of(&self, x: &Memory, call: Call, said: Said) -> Result<Row, String> {
+    pub fn row_of(&self, x: &Memory, call: Call, said: &Said) -> Result<Row, String> {
         let name = match call {
             Call::Get(id) | Call::Set(id) | Call::SetIfNew(id) | Call::SetPrepared(id) | Call::Rank(id) | Call::RankIfSet(id) if id >= 0 => {
                 self.of_a_chunk(x, call, id as u64)
@@ -239,12 +250,8 @@ impl Bad {
             Call::ChunkOf(id) if id < 0 => Row::Negative,
             _ => self.beside(),
         };
-        let wanted = match call {
-            Call::Any(..) | Call::Iter(_) => self.found(x, call),
-            _ if name.exact() => self.exact(x, call),
-            _ => None,
-        };
-        if wanted.is_none_or(|w| w == said) { Ok(name) } else { Err(format!("{said:?} and not {wanted:?} under the row {}", name.name())) }
+        let wanted = if name.exact() { self.exact(x, call) } else { None };
+        if wanted.as_ref().is_none_or(|w| w == said) { Ok(name) } else { Err(format!("{said:?} and not {wanted:?}, nothing wrong where it looks ({name:?})")) }
     }
 
     /// The answer of a call that walks the table first: 3 where that finds something wrong, else that of the set that the table speaks of.
@@ -317,7 +324,8 @@ impl Bad {
         }
     }
 
-    /// The entries from the low id's on, up to the high id's, until a range test has an id or iteration one more than its record holds. None where no id is asked for.
+    /// The entries from the low id's on, up to the high id's, until a range test has an id, or iteration one more than its record holds.
+    /// None where no id is asked for.
     fn looked(&self, x: &Memory, call: Call) -> Option<Looked<'_>> {
         let (low, high, most) = match call {
             Call::Any(min, max) if min <= max && max >= 0 => (min.max(0), max, 1),
@@ -331,9 +339,10 @@ impl Bad {
             ids.extend(all.filter(|id| (low..=high).contains(id)));
             to += 1;
         }
-        let (entries, reads_overflow) = (&self.entries[from..to], to > self.direct || to == self.direct && ids.len() < most);
-        let rising = entries.is_sorted_by(|a, b| a.chunk < b.chunk) && (self.rising || !reads_overflow);
-        Some(Looked { entries, ids, rising })
+        let (entries, goes_on) = (&self.entries[from..to], ids.len() < most);
+        let overflow = to > self.direct || to == self.direct && goes_on;
+        let rising = entries.is_sorted_by(|a, b| a.chunk < b.chunk) && (self.rising || !overflow);
+        Some(Looked { entries, ids, rising, past: goes_on && to < self.entries.len() })
     }
 
     fn of_looked(&self, looked: &Looked, call: Call) -> Row {
@@ -349,13 +358,20 @@ impl Bad {
         }
     }
 
-    /// What a range test or iteration says by the entries that it looks at, unless that hangs on a search, or an offset is listed as another. Holds for every row.
-    fn found(&self, x: &Memory, call: Call) -> Option<Said> {
+    /// What a range test or iteration says: 3, or the ids of the parts that it looks at. None where it hangs on a search, or an offset is listed as another.
+    pub fn running(&self, x: &Memory, call: Call) -> Option<Said> {
+        let iterates = matches!(call, Call::Iter(_));
+        if !iterates && !matches!(call, Call::Any(..)) {
+            return None;
+        }
+        if !self.entries_in {
+            return Some(call.refused(3));
+        }
         let Some(looked) = self.looked(x, call) else { return Some(value(0).into()) };
-        let hangs = !looked.rising || looked.any(|e| e.falling);
         match call {
-            _ if hangs => None,
-            Call::Iter(start) => (!looked.any(|e| e.far)).then(|| listed(&looked.ids, start)),
+            _ if !looked.rising || looked.any(|e| e.falling || iterates && e.far) => None,
+            _ if looked.any(|e| e.outside) || iterates && looked.past && looked.ids.len() < 64 => Some(call.refused(3)),
+            Call::Iter(start) => Some(listed(&looked.ids, start)),
             _ => Some(value((!looked.ids.is_empty()).into()).into()),
         }
     }
@@ -397,7 +413,8 @@ impl Bad {
         u64::from(count) != bits(&words[..o as usize / 512 * 8])
     }
 
-    /// Document 01's answer by the part that the call looks at. Counts and chunk ids are held in other.rs, for every row.
+    /// Document 01's answer by the part that the call looks at. Counts and chunk ids are held in other.rs, range tests and
+    /// iteration in `running`, for every row.
     fn exact(&self, x: &Memory, call: Call) -> Option<Said> {
         let at = |id: i64| {
             let (at, entry) = self.place(id as u64 >> self.s);

@@ -87,7 +87,10 @@ const CASES: [Case; 36] = [
     ("blocks", [9, 1, 1, 0, 0, 1], &[PreAllocate(0), IntoRanked], &[Blocks(0, 1)], &[Of(Rank(0), YES)]),
     ("written over", [9, 1, 0, 0, 0, 0], &[], &[Table(8, 1)], &[Of(IntoRanked, DONE), Of(TotalCount, NO), Of(Check, YES)]),
     ("written over", [9, 1, 0, 0, 0, 0], &[IntoRanked], &[Table(8, 1)], &[Of(IntoOpen, DONE), Of(Check, YES)]),
-    ("negative", [9, 1, 1, 0, 0, 0], &[], &[Table(16, 1)], &[Of(Get(-1), NO), Of(Any(-5, -1), NO), Of(Any(1, 0), NO), Of(Get(0), BAD), Of(Any(-5, 0), BAD), Of(Iter(-1), BAD)]),
+    (
+        "negative", [9, 1, 1, 0, 0, 0], &[], &[Table(16, 1)],
+        &[Of(Get(-1), NO), Of(Any(-5, -1), NO), Of(Any(1, 0), NO), Of(Get(0), BAD), Of(Any(-5, 0), BAD), Of(Iter(-1), BAD)],
+    ),
     ("sizes", [9, 1, 0, 0, 0, 0], &[], &[Short(1)], &[Of(ChunkOf(5), NO), Of(Rank(5), refusal(5)), Of(Get(5), BAD), Of(Any(1, 0), BAD), Of(Iter(0), BAD)]),
     ("elsewhere", [9, 1, 1, 0, 0, 0], &[], &[Table(9, 1)], &[Of(Get(0), NO), Of(Any(0, 0), NO), List(0, &[]), Of(SetIfNew(0), refusal(7))]),
     // a hit, or a full record and a hit past it, before a part that is refused
@@ -129,7 +132,7 @@ fn ask(x: &mut Memory, ask: Ask, of: &str) -> Option<(Call, Said)> {
         List(start, ids) => same(Iter(start), listed(ids, start)),
         GoesOn(start, next) => {
             let said = Iter(start).make(x);
-            assert!(matches!(said, Said::Listed(r) if r.count == 64 && !r.end && r.next == next), "smallest input of {of}: a record that goes on is {said:?}");
+            assert!(matches!(&said, Said::Listed(r) if r.count == 64 && !r.end && r.next == next), "smallest input of {of}: a record that goes on is {said:?}");
             Some((Iter(start), said))
         }
         Plan(slots, wanted) => {
@@ -153,7 +156,7 @@ pub fn run() {
         for &a in asks {
             let as_poked = x == poked;
             if let Some((call, said)) = ask(&mut x, a, of).filter(|(_, said)| as_poked && said.refusal().is_none()) {
-                assert_eq!(bad.row_of(&poked, call, said).map(Row::name), Ok(name), "smallest input: {call:?}");
+                assert_eq!(bad.row_of(&poked, call, &said).map(Row::name), Ok(name), "smallest input: {call:?}");
             }
         }
     }
