@@ -52,12 +52,17 @@ const SIXTY_FOUR: [Call; 64] = {
     sets
 };
 
-const CASES: [Case; 36] = [
+const CASES: [Case; 38] = [
     (
         "order", [9, 1, 0, 3, 3, 0], &[Set(512), Set(1024)], &[Table(16, 2), Table(19, 1)],
         &[Of(Get(512), NO), Of(Any(0, 512), NO), List(0, &[1024, 512]), Of(SetIfNew(512), YES), Of(Chunks, THREE)],
     ),
     ("order", [9, 1, 1, 1, 1, 0], &[Set(512)], &[Table(18, 0)], &[Of(Any(0, 0), YES), List(0, &[0])]),
+    // records that lead back to each other
+    (
+        "order", [9, 1, 2, 1, 0, 2], &[PreAllocate(1023)],
+        &[Table(7, 1), Table(16, 0), Table(21, 1 << 28), Pages(0, u64::MAX), Pages(8, u64::MAX)], &[GoesOn(576, 64), GoesOn(64, 576)],
+    ),
     ("empty entry", [9, 1, 0, 1, 1, 0], &[], &[Table(7, 1)], &[Of(Get(0), NO), Of(Any(0, 0), NO), List(0, &[]), Of(Chunks, NO), Of(SetIfNew(0), refusal(6))]),
     ("empty entry", [9, 1, 0, 2, 1, 0], &[], &[Table(7, 1)], &[Of(SetIfNew(0), YES), Of(Get(0), YES), Of(Check, YES)]),
     (
@@ -75,6 +80,7 @@ const CASES: [Case; 36] = [
     ("falling", [9, 3, 1, 0, 1, 0], &[Set(1), Set(2)], &[Rows(0, 9)], &[Of(SetIfNew(2), YES), Of(Len, THREE)]),
     ("far", [9, 1, 1, 0, 1, 1], &[Set(5)], &[Rows(0, 517)], &[List(6, &[5]), Of(Len, YES), Of(SetIfNew(6), YES), Of(Get(5), YES)]),
     ("far", [9, 64, 1, 0, 1, 0], &SIXTY_FOUR, &[Rows(63, 512)], &[GoesOn(1, 1)]),
+    ("falling", [9, 64, 1, 0, 1, 0], &SIXTY_FOUR, &[Rows(63, 0)], &[GoesOn(1, 1)]),
     ("far", [9, 1, 1, 0, 1, 1], &[Set(5)], &[Rows(0, 517)], &[Of(PreAllocate(0), DONE), Of(Get(5), YES)]),
     ("named free", [9, 1, 2, 0, 1, 0], &[Set(0)], &[Table(20, 0)], &[Of(SetIfNew(513), YES), Of(Get(0), NO), Of(Get(1), YES)]),
     ("free row", [9, 2, 1, 0, 1, 0], &[], &[Rows(1, 7)], &[Of(SetIfNew(0), YES), Of(Len, YES), Of(Check, NO)]),
