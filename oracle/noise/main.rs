@@ -2,6 +2,7 @@
 //! answers what document 01 lets it, a refusal and a reading call leave all as it was, and where memory follows the layout answer and memory after
 //! are the plain set's; where it doesn't, the answer falls under a row of docs/EXCEPTIONS.md, and every row comes up.
 //! Arguments: how many times the usual number of rounds, the seed, and for one round alone its sizes' place and its number.
+mod bad;
 mod call;
 mod choose;
 #[path = "../library.rs"]
@@ -16,11 +17,12 @@ mod rows;
 mod second;
 mod smallest;
 
+use bad::Bad;
 use call::{Call, Record, Said};
 use library::{DONE, Memory, Sizes, refused};
 use plain::Plain;
 use poke::Random;
-use rows::{Bad, NAMES, Row};
+use rows::{NAMES, Row};
 use std::fmt::Arguments;
 
 /// What memory stands for, or what is wrong with it.

@@ -137,7 +137,10 @@ impl Loose<'_> {
 
     /// An offset of 2^s or more is listed mod 2^s.
     fn slot_lists(&self, w: u64, o: u64) -> bool {
-        self.offsets(w).iter().any(|&p| u64::from(p) % (1 << self.s) == o)
+        match word(w) {
+            Word::Row(r, length) => self.row(r, length).is_some_and(|t| t.iter().any(|&p| u64::from(p) % (1 << self.s) == o)),
+            _ => self.slot_has(w, o),
+        }
     }
 
     /// What the slot holds, as it stands.

@@ -1,8 +1,9 @@
 //! The smallest input of each row of docs/EXCEPTIONS.md, and inputs that once were answered and now are refused: what calls answer on them, one
 //! after the other.
+use crate::bad::Bad;
 use crate::call::{Call, Call::*, Said, listed};
 use crate::library::{Answer, DONE, Memory, NONE, Sizes};
-use crate::rows::{Bad, NAMES, Row};
+use crate::rows::{NAMES, Row};
 use crate::second;
 
 #[derive(Clone, Copy)]
