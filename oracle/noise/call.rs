@@ -1,5 +1,5 @@
 //! Every call as a value: how it is made, and which answers document 01 lets it give on any memory at all.
-use crate::library::{Answer, DONE, Memory, Sizes, value};
+use crate::library::{Answer, DONE, Listing, Memory, NONE, Sizes, refused, value};
 
 #[derive(Clone, Copy, Debug)]
 pub enum Call {
@@ -10,16 +10,60 @@ pub enum Call {
     SetPrepared(i64),
     PreAllocate(i64),
     Get(i64),
+    Any(i64, i64),
     ChunkOf(i64),
     Len,
     IsEmpty,
     HasAny,
     Chunks,
+    Iter(i64),
     IntoRanked,
     IntoOpen,
     Rank(i64),
     RankIfSet(i64),
     TotalCount,
+}
+
+/// What a call says: an answer, or iteration's record.
+#[derive(Clone, PartialEq, Debug)]
+pub enum Said {
+    Short(Answer),
+    Listed(Box<Listing>),
+}
+
+impl From<Answer> for Said {
+    fn from(a: Answer) -> Said {
+        Said::Short(a)
+    }
+}
+
+impl From<Listing> for Said {
+    fn from(r: Listing) -> Said {
+        Said::Listed(Box::new(r))
+    }
+}
+
+impl Said {
+    pub fn refusal(&self) -> Option<u64> {
+        match self {
+            Said::Short(a) => (a.kind == 2).then_some(a.value),
+            Said::Listed(r) => (r.refusal != 0).then_some(r.refusal),
+        }
+    }
+}
+
+/// The record of the first 64 of these ids; it goes on where there are more.
+pub fn listed(found: &[i64], start: i64) -> Said {
+    let (mut ids, count, end) = ([0; 64], found.len().min(64), found.len() <= 64);
+    ids[..count].copy_from_slice(&found[..count]);
+    Listing { ids, count: count as u64, end, next: if end { start } else { ids[63] + 1 }, refusal: 0 }.into()
+}
+
+/// Whether a record's fields are in order: unused places 0, the next start the one given where the mark is set, else right after the last of 64 ids.
+fn in_order(r: &Listing, start: i64) -> bool {
+    let rest = r.ids.get(r.count as usize..);
+    let next = if r.end { Some(start) } else { r.ids[63].checked_add(1).filter(|_| r.count == 64) };
+    rest.is_some_and(|rest| rest.iter().all(|&id| id == 0)) && next == Some(r.next)
 }
 
 /// A plan as it comes back from planning, and as a caller may make one up.
@@ -43,6 +87,7 @@ enum Kind {
     YesNo,
     Number,
     NumberOrNone,
+    Record(i64),
 }
 
 use Call::*;
@@ -52,8 +97,8 @@ impl Call {
     pub const OF_AN_ID: [fn(i64) -> Call; 8] = [Set, SetIfNew, SetPrepared, PreAllocate, Get, ChunkOf, Rank, RankIfSet];
     pub const ALONE: [Call; 8] = [Check, Len, IsEmpty, HasAny, Chunks, TotalCount, IntoRanked, IntoOpen];
 
-    pub fn make(self, x: &mut Memory) -> Answer {
-        match self {
+    pub fn make(self, x: &mut Memory) -> Said {
+        let answer = match self {
             SetUp(z) => x.bp_set_up(z),
             Check => value(x.bp_check().into()),
             Set(id) => x.bp_set(id),
@@ -61,17 +106,20 @@ impl Call {
             SetPrepared(id) => x.bp_set_prepared(id),
             PreAllocate(max) => x.bp_pre_allocate(max),
             Get(id) => x.bp_get(id),
+            Any(min, max) => x.bp_any_in_range(min, max),
             ChunkOf(id) => x.bp_chunk_of(id),
             Len => x.bp_len(),
             IsEmpty => x.bp_is_empty(),
             HasAny => x.bp_has_any(),
             Chunks => x.bp_allocated_chunk_count(),
+            Iter(start) => return x.bp_iter_from(start).into(),
             IntoRanked => x.bp_into_ranked(),
             IntoOpen => x.bp_into_open(),
             Rank(id) => x.bp_rank(id),
             RankIfSet(id) => x.bp_rank_if_set(id),
             TotalCount => x.bp_total_count(),
-        }
+        };
+        answer.into()
     }
 
     fn answers(self) -> (Kind, &'static [u64]) {
@@ -82,9 +130,10 @@ impl Call {
             SetIfNew(_) => (Kind::YesNo, &[3, 4, 6, 7, 8]),
             SetPrepared(_) => (Kind::YesNo, &[3, 4, 9]),
             PreAllocate(_) => (Kind::Nothing, &[3, 4, 6, 8]),
-            Get(_) | IsEmpty | HasAny => (Kind::YesNo, &[3]),
+            Get(_) | Any(..) | IsEmpty | HasAny => (Kind::YesNo, &[3]),
             ChunkOf(_) => (Kind::NumberOrNone, &[3]),
             Len | Chunks => (Kind::Number, &[3]),
+            Iter(start) => (Kind::Record(start), &[3]),
             IntoRanked => (Kind::Nothing, &[3, 4]),
             IntoOpen => (Kind::Nothing, &[3, 5]),
             Rank(_) | TotalCount => (Kind::Number, &[3, 5]),
@@ -92,13 +141,25 @@ impl Call {
         }
     }
 
-    pub fn allows(self, a: Answer) -> bool {
+    /// A refusal is a number alone: every other field is 0.
+    pub fn refused(self, no: u64) -> Said {
+        match self {
+            Iter(_) => Listing { ids: [0; 64], count: 0, end: false, next: 0, refusal: no }.into(),
+            _ => refused(no).into(),
+        }
+    }
+
+    pub fn allows(self, said: &Said) -> bool {
         let (kind, refusals) = self.answers();
-        match (a.kind, kind) {
-            (0, Kind::Nothing | Kind::NumberOrNone) => a == DONE,
-            (1, Kind::YesNo) => a.value <= 1,
-            (1, Kind::Number | Kind::NumberOrNone) => true,
-            (2, _) => refusals.contains(&a.value),
+        if let Some(no) = said.refusal() {
+            return refusals.contains(&no) && *said == self.refused(no);
+        }
+        match (said, kind) {
+            (&Said::Short(a), Kind::Nothing) => a == DONE,
+            (&Said::Short(a), Kind::YesNo) => a.kind == 1 && a.value <= 1,
+            (&Said::Short(a), Kind::Number) => a.kind == 1,
+            (&Said::Short(a), Kind::NumberOrNone) => a.kind == 1 || a == NONE,
+            (Said::Listed(r), Kind::Record(start)) => in_order(r, start),
             _ => false,
         }
     }

@@ -25,6 +25,19 @@ fn id(g: &mut Random, x: &Memory, z: Sizes) -> i64 {
     (chunk << s | offset % (1 << s)) as i64 & i64::MAX
 }
 
+/// Two ids for a range test: the same one twice, near each other or anywhere, ends that take in all on one side, and the wrong way round.
+fn range(g: &mut Random, x: &Memory, z: Sizes) -> Call {
+    let (a, b) = (id(g, x, z), id(g, x, z));
+    match g.below(8) {
+        0 => Call::Any(a, a),
+        1 => Call::Any(a, a.saturating_add(g.below(3 << z.s) as i64)),
+        2 => Call::Any(i64::MIN, a),
+        3 => Call::Any(a, i64::MAX),
+        4 => Call::Any(a.max(b), a.min(b)),
+        _ => Call::Any(a.min(b), a.max(b)),
+    }
+}
+
 /// Sizes for set-up: those of memory, small ones, and some with a number outside the table of sizes or too large for memory.
 fn sizes(g: &mut Random, z: Sizes) -> Sizes {
     let mut z = if g.one_in(2) { z } else { Sizes { s: 9 + g.below(2), m: 1 + g.below(3), d: g.below(4), v: g.below(4), r: g.below(4), p: g.below(2) } };
@@ -49,6 +62,8 @@ pub fn every_call(g: &mut Random, x: &Memory, z: Sizes) -> Vec<Call> {
         let id = id(g, x, z);
         all.extend(Call::OF_AN_ID.map(|call| call(id)));
     }
+    let start = id(g, x, z);
+    all.extend([range(g, x, z), range(g, x, z), Call::Iter(g.pick(&[0, i64::MIN, start, start]))]);
     all.extend([Call::SetUp(sizes(g, z)), Call::SetUp(sizes(g, z))]);
     // in any order, since what a call made is sometimes kept for the next
     (1..all.len()).for_each(|k| all.swap(k, g.below(k as u64 + 1) as usize));

@@ -2,6 +2,7 @@
 //! answers what document 01 lets it, a refusal and a reading call leave all as it was, and where memory follows the layout answer and memory after
 //! are the plain set's; where it doesn't, the answer falls under a row of docs/EXCEPTIONS.md, and every row comes up.
 //! Arguments: how many times the usual number of rounds, the seed, and for one round alone its sizes' place and its number.
+mod bad;
 mod call;
 mod choose;
 #[path = "../library.rs"]
@@ -16,11 +17,12 @@ mod rows;
 mod second;
 mod smallest;
 
-use call::{Call, Record};
-use library::{Answer, DONE, Memory, Sizes, refused};
+use bad::Bad;
+use call::{Call, Record, Said};
+use library::{DONE, Memory, Sizes, refused};
 use plain::Plain;
 use poke::Random;
-use rows::{Bad, NAMES, Row};
+use rows::{NAMES, Row};
 use std::fmt::Arguments;
 
 /// What memory stands for, or what is wrong with it.
@@ -72,6 +74,8 @@ struct Run {
     no: [u64; 3],
     /// How often each rule alone was broken.
     alone: [u64; 17],
+    /// Records of iteration that go on, by where memory comes from.
+    goes_on: [u64; 3],
     /// Answers under each row of docs/EXCEPTIONS.md.
     rows: [u64; NAMES.len()],
 }
@@ -102,34 +106,35 @@ impl Run {
     }
 
     /// The call on `work`, which is as `before` and is so again afterwards, unless the call changed it and is kept.
-    fn one(&mut self, g: &mut Random, call: Call, before: &Memory, judged: &mut Judged, work: &mut Memory) -> Answer {
-        let a = call.make(work);
+    fn one(&mut self, g: &mut Random, call: Call, before: &Memory, judged: &mut Judged, work: &mut Memory) -> Said {
+        let said = call.make(work);
         let same = work == before;
-        self.ensure(call.allows(a), format_args!("{a:?} is no answer of this call"), Some(call), before);
+        self.ensure(call.allows(&said), format_args!("{said:?} is no answer of this call"), Some(call), before);
         self.calls += 1;
         self.changes += u64::from(!same);
-        if a.kind == 2 {
-            self.refusals[a.value as usize] += 1;
+        if let Some(no) = said.refusal() {
+            self.refusals[no as usize] += 1;
         }
-        self.ensure(same || (call.writes() && a.kind != 2), format_args!("memory changed"), Some(call), before);
+        self.goes_on[self.from as usize] += u64::from(matches!(&said, Said::Listed(r) if r.refusal == 0 && !r.end));
+        self.ensure(same || (call.writes() && said.refusal().is_none()), format_args!("memory changed"), Some(call), before);
         if g.one_in(8) {
             let mut again = before.clone();
-            self.ensure(call.make(&mut again) == a && again == *work, format_args!("not the same a second time"), Some(call), before);
+            self.ensure(call.make(&mut again) == said && again == *work, format_args!("not the same a second time"), Some(call), before);
         }
         match (call, judged) {
-            (_, Ok(set)) => self.followed(call, a, before, set, work),
-            (Call::SetUp(z), _) => self.set_up(z, a, before, work),
+            (_, Ok(set)) => self.followed(call, &said, before, set, work),
+            (Call::SetUp(z), _) => self.set_up(z, &said, before, work),
             (Call::Check, _) => (),
-            (_, Err(bad)) => self.elsewhere(call, a, before, bad, work),
+            (_, Err(bad)) => self.elsewhere(call, &said, before, bad, work),
         }
-        a
+        said
     }
 
     /// On memory that follows the layout: the answer and the set after it.
-    fn followed(&self, call: Call, a: Answer, before: &Memory, set: &mut Plain, work: &mut Memory) {
+    fn followed(&self, call: Call, said: &Said, before: &Memory, set: &mut Plain, work: &mut Memory) {
         let mut after = if call.writes() { Some(set.clone()) } else { None };
         let wanted = after.as_mut().unwrap_or(set).call(call, before.lent());
-        self.ensure(a == wanted, format_args!("{a:?} and not {wanted:?}"), Some(call), before);
+        self.ensure(*said == wanted, format_args!("{said:?} and not {wanted:?}"), Some(call), before);
         let Some(after) = after else { return };
         let sizes = after.sizes;
         let fine = if work == before { after == *set } else { work.bp_check() && second::read(work) == Ok(after) };
@@ -138,23 +143,23 @@ impl Run {
     }
 
     /// Set-up of memory that follows nothing.
-    fn set_up(&self, z: Sizes, a: Answer, before: &Memory, work: &mut Memory) {
-        let wanted = plain::set_up(z, before.lent()).map_or_else(refused, |()| DONE);
-        self.ensure(a == wanted, format_args!("{a:?} and not {wanted:?}"), Some(Call::SetUp(z)), before);
-        if a == DONE {
+    fn set_up(&self, z: Sizes, said: &Said, before: &Memory, work: &mut Memory) {
+        let wanted = plain::set_up(z, before.lent()).map_or_else(refused, |()| DONE).into();
+        self.ensure(*said == wanted, format_args!("{said:?} and not {wanted:?}"), Some(Call::SetUp(z)), before);
+        if *said == DONE.into() {
             let fine = work.bp_check() && second::read(work) == Ok(Plain::empty(z)) && past_stays(before, work, z.needs());
             self.ensure(fine, format_args!("not set up"), Some(Call::SetUp(z)), before);
         }
     }
 
     /// Any other call on memory that does not follow the layout: the answer has its row in docs/EXCEPTIONS.md. The elements past the sizes stay here too.
-    fn elsewhere(&mut self, call: Call, a: Answer, before: &Memory, bad: &Bad, work: &Memory) {
-        self.ensure(other::fits(before, call, a), format_args!("{a:?} is not in the exception list"), Some(call), before);
-        let wanted = bad.walking(call, before.lent());
-        self.ensure(wanted.is_none_or(|w| w == a), format_args!("{a:?} and not {wanted:?}"), Some(call), before);
+    fn elsewhere(&mut self, call: Call, said: &Said, before: &Memory, bad: &Bad, work: &Memory) {
+        self.ensure(other::fits(before, call, said), format_args!("{said:?} is not in the exception list"), Some(call), before);
+        let wanted = bad.walking(call, before.lent()).or_else(|| bad.running(before, call));
+        self.ensure(wanted.as_ref().is_none_or(|w| w == said), format_args!("{said:?} and not {wanted:?}"), Some(call), before);
         self.ensure(past_stays(before, work, bad.ends(before)), format_args!("an element past the sizes changed"), Some(call), before);
-        if a.kind != 2 {
-            self.under(bad.row_of(before, call, a), Some(call), before);
+        if said.refusal().is_none() {
+            self.under(bad.row_of(before, call, said), Some(call), before);
         }
     }
 
@@ -240,8 +245,8 @@ impl Run {
 
     fn grow(&mut self, g: &mut Random, call: Call, x: &mut Memory, judged: &mut Judged) {
         let before = x.clone();
-        let a = self.one(g, call, &before, judged, x);
-        if a.kind != 2 {
+        let said = self.one(g, call, &before, judged, x);
+        if said.refusal().is_none() {
             *judged = self::judged(x);
         }
     }
@@ -267,8 +272,8 @@ impl Run {
         let ([made, poked, noise], [_, poked_no, noise_no]) = (self.yes, self.no);
         println!(
             "noise: {} rounds, {} calls, {} changes, refusals 1 to 12 but 10 {:?}; both checks: {made} made sets yes, poked {poked} yes {poked_no} no, \
-             noise {noise} yes {noise_no} no; rules 1 to 16 broken alone {:?}",
-            self.rounds, self.calls, self.changes, [1, 2, 3, 4, 5, 6, 7, 8, 9, 11, 12].map(|no: usize| self.refusals[no]), &self.alone[1..]
+             noise {noise} yes {noise_no} no; rules 1 to 16 broken alone {:?}; records that go on {:?}",
+            self.rounds, self.calls, self.changes, [1, 2, 3, 4, 5, 6, 7, 8, 9, 11, 12].map(|no: usize| self.refusals[no]), &self.alone[1..], self.goes_on
         );
         let rows: Vec<String> = NAMES.iter().zip(self.rows).map(|(name, n)| format!("{name} {n}")).collect();
         println!("noise: answers by the rows of docs/EXCEPTIONS.md: {}", rows.join(", "));
@@ -308,6 +313,7 @@ fn main() {
     if a.len() < 4 {
         assert!(run.alone[1..].iter().all(|&n| n > 0), "a rule was never broken alone");
         assert!((1..=12).all(|no| no == 10 || run.refusals[no] > 0), "a refusal never came up");
+        assert!(run.goes_on.iter().all(|&n| n > 0), "a record that goes on never came up");
         assert!(run.rows.iter().all(|&n| n > 0), "a row of docs/EXCEPTIONS.md never came up");
     }
 }

@@ -1,7 +1,7 @@
 //! What docs/EXCEPTIONS.md lets a call answer on memory that doesn't follow the layout, as far as it doesn't hang on the way a search goes.
-use crate::call::{Call, Record};
-use crate::library::{Answer, Memory, refused, value};
-use crate::second::{Word, word};
+use crate::call::{Call, Record, Said};
+use crate::library::{Answer, Listing, Memory, value};
+use crate::second::{Word, set_bits, word};
 
 struct Loose<'a> {
     x: &'a Memory,
@@ -10,15 +10,15 @@ struct Loose<'a> {
 }
 
 /// Whether the list has this answer. None of it is asked of set-up, which trusts nothing, or of the check.
-pub fn fits(x: &Memory, call: Call, a: Answer) -> bool {
+pub fn fits(x: &Memory, call: Call, said: &Said) -> bool {
     let table = &x.table[..x.lent()[3]];
     match table.first() {
         _ if matches!(call, Call::SetUp(_) | Call::Check) => true,
         Some(&s) if (9..=25).contains(&s) => {
             let v = Loose { x, table, s };
-            v.mode_fits(call, a) && (a.kind == 2 || v.answer_fits(call, a).unwrap_or(false))
+            v.mode_fits(call, said) && (said.refusal().is_some() || v.said_fits(call, said).unwrap_or(false))
         }
-        _ => a == refused(3),
+        _ => *said == call.refused(3),
     }
 }
 
@@ -42,23 +42,38 @@ impl Loose<'_> {
     }
 
     /// A call of the other mode is never accepted, and no mode above 1 by a call that asks for it.
-    fn mode_fits(&self, call: Call, a: Answer) -> bool {
+    fn mode_fits(&self, call: Call, said: &Said) -> bool {
         let wanted = match call {
             Call::Set(_) | Call::SetIfNew(_) | Call::SetPrepared(_) | Call::PreAllocate(_) | Call::IntoRanked => 0,
             Call::Rank(_) | Call::RankIfSet(_) | Call::TotalCount | Call::IntoOpen => 1,
             _ => return true,
         };
         match self.head(6) {
-            2.. => a == refused(3),
-            mode if mode == wanted => a != refused(4) && a != refused(5),
-            mode => a == refused(3) || a == refused(5 - mode),
+            2.. => said.refusal() == Some(3),
+            mode if mode == wanted => !matches!(said.refusal(), Some(4 | 5)),
+            mode => said.refusal().is_some_and(|no| no == 3 || no == 5 - mode),
         }
     }
 
     /// None where the answer would need an element that isn't there.
+    fn said_fits(&self, call: Call, said: &Said) -> Option<bool> {
+        match said {
+            &Said::Short(a) => self.answer_fits(call, a),
+            Said::Listed(r) => self.listing_fits(r),
+        }
+    }
+
+    /// Each id is one that an entry of its chunk lists, and where the record goes on, there is something to go on to.
+    fn listing_fits(&self, r: &Listing) -> Option<bool> {
+        let entries = self.entries()?;
+        let lists = |id: i64| id >= 0 && entries.iter().any(|&(c, w)| c == id as u64 >> self.s && self.slot_lists(w, id as u64 % (1 << self.s)));
+        Some(r.ids[..r.count as usize].iter().all(|&id| lists(id)) && (r.end || self.may_meet(r.next, i64::MAX)?))
+    }
+
     fn answer_fits(&self, call: Call, a: Answer) -> Option<bool> {
         Some(match call {
             Call::Get(id) => a == value(0) || self.may_have(id)?,
+            Call::Any(min, max) => a == value(0) || self.may_meet(min, max)?,
             Call::RankIfSet(id) => a.kind == 0 || self.may_have(id)?,
             Call::SetIfNew(id) | Call::SetPrepared(id) => a == value(1) || id < 0 || self.may_have(id)?,
             Call::ChunkOf(id) => if id < 0 { a.kind == 0 } else { a == value(id as u64 >> self.s) },
@@ -99,6 +114,14 @@ impl Loose<'_> {
         Some(id >= 0 && words.into_iter().any(|w| self.slot_has(w, o)))
     }
 
+    /// Whether some entry has an offset in the range, clipped to its chunk; where ids don't rise, a chunk below the range may be met.
+    fn may_meet(&self, min: i64, max: i64) -> Option<bool> {
+        let (low, high, last) = (min.max(0) as u64, max as u64, (1 << self.s) - 1);
+        let clipped = |c: u64| (if c == low >> self.s { low & last } else { 0 })..=(if c == high >> self.s { high & last } else { last });
+        let meets = |(c, w)| c <= high >> self.s && self.offsets(w).iter().any(|&o| clipped(c).contains(&o.into()));
+        Some(min <= max && max >= 0 && self.entries()?.into_iter().any(meets))
+    }
+
     fn overflow_words(&self, c: u64) -> Option<Vec<u64>> {
         let d = self.head(2) as usize;
         Some(self.entries()?[d..].iter().filter(|e| e.0 == c).map(|e| e.1).collect())
@@ -109,6 +132,23 @@ impl Loose<'_> {
             Word::Absent => false,
             Word::Row(r, length) => self.row(r, length).is_some_and(|t| t.contains(&(o as u32))),
             Word::Page(p) => self.page(p).is_some_and(|t| t[o as usize / 64] >> (o % 64) & 1 == 1),
+        }
+    }
+
+    /// An offset of 2^s or more is listed mod 2^s.
+    fn slot_lists(&self, w: u64, o: u64) -> bool {
+        match word(w) {
+            Word::Row(r, length) => self.row(r, length).is_some_and(|t| t.iter().any(|&p| u64::from(p) % (1 << self.s) == o)),
+            _ => self.slot_has(w, o),
+        }
+    }
+
+    /// What the slot holds, as it stands.
+    fn offsets(&self, w: u64) -> Vec<u32> {
+        match word(w) {
+            Word::Absent => vec![],
+            Word::Row(r, length) => self.row(r, length).unwrap_or_default().to_vec(),
+            Word::Page(p) => self.page(p).map_or(vec![], set_bits),
         }
     }
 

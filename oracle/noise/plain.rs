@@ -1,7 +1,7 @@
 //! A set as document 01 speaks of it: chunks by id, their kind, slot and offsets, and the mode; each call's answer and what it leaves.
 //! Slots are part of it, since document 01 says which is taken: so a set fixes memory, but for the elements past the sizes.
-use crate::call::{Call, Record};
-use crate::library::{Answer, DONE, NONE, Sizes, refused, value};
+use crate::call::{Call, Record, Said, listed};
+use crate::library::{Answer, DONE, NONE, Sizes, value};
 use crate::second::sizes_allowed;
 use std::collections::BTreeMap;
 
@@ -32,12 +32,12 @@ impl Plain {
     }
 
     /// The answer of a call on memory that stands for this set and has these lengths; the set becomes the one after the call.
-    pub fn call(&mut self, call: Call, lent: [usize; 4]) -> Answer {
-        self.told(call, lent).unwrap_or_else(refused)
+    pub fn call(&mut self, call: Call, lent: [usize; 4]) -> Said {
+        self.told(call, lent).unwrap_or_else(|no| call.refused(no))
     }
 
-    fn told(&mut self, call: Call, lent: [usize; 4]) -> Told<Answer> {
-        Ok(match call {
+    fn told(&mut self, call: Call, lent: [usize; 4]) -> Told<Said> {
+        let answer = match call {
             Call::SetUp(z) => {
                 set_up(z, lent)?;
                 *self = Plain::empty(z);
@@ -49,11 +49,13 @@ impl Plain {
             Call::SetPrepared(id) => yes_no(self.insert_prepared(id)?),
             Call::PreAllocate(max) => self.pre_allocate(max).map(|()| DONE)?,
             Call::Get(id) => yes_no(self.has(id)),
+            Call::Any(min, max) => yes_no(self.members_from(min).next().is_some_and(|id| id <= max)),
             Call::ChunkOf(id) => self.split(id).map_or(NONE, |(c, _)| value(c)),
             Call::Len => value(self.len()),
             Call::IsEmpty => yes_no(self.len() == 0),
             Call::HasAny => yes_no(!self.chunks.is_empty()),
             Call::Chunks => value(self.chunks.len() as u64),
+            Call::Iter(start) => return Ok(listed(&self.members_from(start).take(65).collect::<Vec<_>>(), start)),
             Call::IntoRanked => self.turn(false, 4)?,
             Call::IntoOpen => self.turn(true, 5)?,
             Call::Rank(id) => value(self.rank(id)?),
@@ -62,7 +64,8 @@ impl Plain {
                 if self.has(id) { value(rank) } else { NONE }
             }
             Call::TotalCount => value(self.in_mode(true, 5).map(|()| self.len())?),
-        })
+        };
+        Ok(answer.into())
     }
 
     fn in_mode(&self, ranked: bool, no: u64) -> Told<()> {
@@ -87,6 +90,14 @@ impl Plain {
 
     fn len(&self) -> u64 {
         self.chunks.values().map(|k| k.offsets.len() as u64).sum()
+    }
+
+    /// Members not below a start, ascending.
+    fn members_from(&self, start: i64) -> impl Iterator<Item = i64> {
+        let s = self.sizes.s;
+        let chunks = self.chunks.range(start.max(0) as u64 >> s..);
+        let ids = chunks.flat_map(move |(&c, k)| k.offsets.iter().map(move |&o| (c << s | u64::from(o)) as i64));
+        ids.filter(move |&id| id >= start)
     }
 
     fn rank(&self, id: i64) -> Told<u64> {

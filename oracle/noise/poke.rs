@@ -242,6 +242,13 @@ impl Poke<'_> {
         change(&mut self.x.pages, k, |w| w ^ bit);
     }
 
+    /// As many members as a record of iteration holds, or more.
+    fn page_words(&mut self) {
+        let k = self.g.below(self.z.p << (self.z.s - 6)) as usize;
+        let last = k + self.g.below(2) as usize;
+        (k..=last).for_each(|k| change(&mut self.x.pages, k, |_| u64::MAX));
+    }
+
     fn block_count(&mut self) {
         let k = self.g.below(self.z.p << (self.z.s - 9)) as usize;
         let g = &mut *self.g;
@@ -307,10 +314,10 @@ impl Poke<'_> {
 
 type Change = fn(&mut Poke);
 
-const CHANGES: [Change; 20] = [
+const CHANGES: [Change; 21] = [
     |p| p.any_element(), |p| p.header(), |p| p.header(), |p| p.entry_word(), |p| p.prefix(), |p| p.unused_entry(), |p| p.swap_words(),
     |p| p.copy_word(), |p| p.owners(), |p| p.rename(), |p| p.rename(), |p| p.swap_overflow(), |p| p.offset(), |p| p.swap_offsets(), |p| p.length(),
-    |p| p.page_bit(), |p| p.block_count(), |p| p.drop_chunk(), |p| p.move_row(), |p| p.lengths(),
+    |p| p.page_bit(), |p| p.page_words(), |p| p.block_count(), |p| p.drop_chunk(), |p| p.move_row(), |p| p.lengths(),
 ];
 
 /// One to four changes, most often one, so that often one rule alone is broken.

@@ -1,10 +1,11 @@
 //! The rows of docs/EXCEPTIONS.md: which of them an answer on memory that the full check refuses falls under, by what is wrong with the part
 //! that the call looks at. Nothing wrong there: the answer is document 01's for that part, and is held against it.
-use crate::call::{Call, Record};
-use crate::library::{Answer, DONE, Memory, NONE, Sizes, refused, value};
+use crate::bad::{Bad, Entry, Looked};
+use crate::call::{Call, Record, Said, listed};
+use crate::library::{DONE, Memory, NONE, refused, value};
 use crate::other;
 use crate::plain::Plain;
-use crate::second::{Word, page_owner_at, row_owner_at, standing, word};
+use crate::second::Word;
 
 #[derive(Clone, Copy, PartialEq, Debug)]
 pub enum Row {
@@ -45,169 +46,15 @@ impl Row {
     }
 }
 
-/// The rules that the walk tests.
-const WALK: [u8; 10] = [1, 2, 3, 4, 5, 6, 7, 8, 9, 13];
-
-struct Entry {
-    chunk: u64,
-    word: Word,
-    prefix: u64,
-    /// Members of the entries before it.
-    before: u64,
-    shared: bool,
-    owner: bool,
-    falling: bool,
-    far: bool,
-}
-
-/// A pool's lowest free slot: whether an entry names it, whether it holds zeros, whether a lower one has an owner and no entry.
-#[derive(Clone, Copy, Default)]
-struct Free {
-    named: bool,
-    filled: bool,
-    passed: bool,
-}
-
-/// Memory that breaks a rule, and what is wrong with which part of it.
-pub struct Bad {
-    pub broken: Vec<u8>,
-    s: u64,
-    z: Sizes,
-    total: u64,
-    entries: Vec<Entry>,
-    direct: usize,
-    rising: bool,
-    members: u64,
-    row: Free,
-    page: Free,
-    /// The set that the table speaks of, where the walk finds nothing wrong.
-    walked: Option<Plain>,
-}
-
-fn table_end(z: Sizes) -> Option<u64> {
-    let over = z.v.checked_mul(3)?;
-    z.d.checked_mul(2)?.checked_add(over)?.checked_add(z.r)?.checked_add(z.p)?.checked_add(16)
-}
-
-fn row(x: &Memory, m: u64, r: u64, n: u64) -> Option<&[u32]> {
-    let from = r.checked_mul(m)?;
-    x.rows[..x.lent()[1]].get(from as usize..from.checked_add(n)? as usize)
-}
-
-fn page(x: &Memory, s: u64, p: u64) -> Option<&[u64]> {
-    let (from, wide) = (p.checked_mul(1 << (s - 6))?, 1 << (s - 6));
-    x.pages[..x.lent()[0]].get(from as usize..from.checked_add(wide)? as usize)
-}
-
-fn bits(words: &[u64]) -> u64 {
-    words.iter().map(|w| u64::from(w.count_ones())).sum()
-}
-
-fn has_bit(words: &[u64], o: u64) -> bool {
-    words[o as usize / 64] >> (o % 64) & 1 == 1
-}
-
 impl Bad {
-    pub fn new(x: &Memory, broken: Vec<u8>) -> Bad {
-        let t = &x.table[..x.lent()[3]];
-        let head = |k| t.get(k).copied().unwrap_or(0);
-        let z = Sizes { s: head(0), m: head(1), d: head(2), v: head(3), r: head(4), p: head(5) };
-        let s = z.s.clamp(9, 25);
-        let placed = !matches!(broken[..], [1] | [2]);
-        let room = t.len().saturating_sub(16);
-        // of the last direct entry the word may be there alone
-        let direct = z.d.min(room.div_ceil(2) as u64) as usize;
-        let over = if direct as u64 == z.d { head(7).min(z.v).min(room.saturating_sub(2 * direct) as u64 / 3) } else { 0 };
-        let places = (0..direct).map(|c| (c as u64, 16 + 2 * c)).chain((0..over as usize).map(|j| 16 + 2 * direct + 3 * j).map(|at| (t[at], at + 1)));
-        let mut before = 0;
-        let mut entries: Vec<Entry> = places
-            .map(|(chunk, at)| {
-                let (word, prefix, first) = (word(t[at]), head(at + 1), before);
-                let owner_is = |at: usize| !placed || t.get(at).is_none_or(|&w| Some(w) == chunk.checked_add(1));
-                let (owner, falling, far) = match word {
-                    Word::Row(r, n) => {
-                        before += n;
-                        let offsets = row(x, z.m, r, n).unwrap_or(&[]);
-                        let far = offsets.iter().any(|&o| o >= 1 << s);
-                        (r >= z.r || owner_is(if placed { row_owner_at(z, r) } else { 0 }), !offsets.is_sorted_by(|a, b| a < b), far)
-                    }
-                    Word::Page(p) => {
-                        before += page(x, s, p).map_or(0, bits);
-                        (p >= z.p || owner_is(if placed { page_owner_at(z, p) } else { 0 }), false, false)
-                    }
-                    Word::Absent => (true, false, false),
-                };
-                Entry { chunk, word, prefix, before: first, shared: false, owner, falling, far }
-            })
-            .collect();
-        let slot = |e: &Entry| match e.word {
-            Word::Absent => None,
-            Word::Row(r, _) => Some((false, r)),
-            Word::Page(p) => Some((true, p)),
-        };
-        let mut slots: Vec<_> = entries.iter().filter_map(slot).collect();
-        slots.sort_unstable();
-        for e in &mut entries {
-            let own = slot(e);
-            let at = own.map_or(0, |s| slots.partition_point(|o| *o < s));
-            e.shared = own.is_some() && slots.get(at + 1) == own.as_ref();
-        }
-        let named = |dense: bool, k: u64| slots.binary_search(&(dense, k)).is_ok();
-        let free = |dense: bool, n: u64, owner: &dyn Fn(u64) -> usize, filled: &dyn Fn(u64) -> bool| {
-            let lowest = (0..n).find(|&k| t[owner(k)] == 0).unwrap_or(n);
-            Free { named: named(dense, lowest), filled: lowest < n && filled(lowest), passed: (0..lowest).any(|k| !named(dense, k)) }
-        };
-        let (row, page) = if placed {
-            (
-                free(false, z.r, &|r| row_owner_at(z, r), &|r| row(x, z.m, r, z.m).is_some_and(|o| o.iter().any(|&o| o != 0))),
-                free(true, z.p, &|p| page_owner_at(z, p), &|p| page(x, s, p).is_some_and(|w| w.iter().any(|&w| w != 0))),
-            )
-        } else {
-            (Free::default(), Free::default())
-        };
-        let rising = entries[direct..].is_sorted_by(|a, b| a.chunk < b.chunk);
-        let rises = entries.is_sorted_by(|a, b| a.prefix <= b.prefix) && entries.last().is_none_or(|e| e.prefix <= head(8)) && head(8) < 1 << 63;
-        let walks = !broken.iter().any(|r| WALK.contains(r)) && (head(6) == 0 || rises);
-        let walked = if walks { standing(x) } else { None };
-        Bad { broken, s, z, total: head(8), entries, direct, rising, members: before, row, page, walked }
-    }
-
-    fn breaks(&self, rules: &[u8]) -> bool {
-        rules.iter().any(|r| self.broken.contains(r))
-    }
-
-    /// Where the chunk's entry is or would be, ids rising.
-    fn place(&self, c: u64) -> (usize, Option<&Entry>) {
-        let at = if c < self.direct as u64 { c as usize } else { self.direct + self.entries[self.direct..].partition_point(|e| e.chunk < c) };
-        (at, self.entries.get(at).filter(|e| e.chunk == c))
-    }
-
-    fn any(&self, is: impl Fn(&Entry) -> bool) -> bool {
-        self.entries.iter().any(is)
-    }
-
-    /// Whether the chunk of an entry has the offset, and how many it has below.
-    fn slot(&self, x: &Memory, w: Word, o: u64) -> (bool, u64) {
-        match w {
-            Word::Absent => (false, 0),
-            Word::Row(r, n) => {
-                let offsets = row(x, self.z.m, r, n).unwrap_or(&[]);
-                (offsets.contains(&(o as u32)), offsets.iter().filter(|&&p| u64::from(p) < o).count() as u64)
-            }
-            Word::Page(p) => page(x, self.s, p).map_or((false, 0), |words| {
-                let k = o as usize / 64;
-                (has_bit(words, o), bits(&words[..k]) + u64::from((words[k] & ((1 << (o % 64)) - 1)).count_ones()))
-            }),
-        }
-    }
-
     /// The row that this answer falls under, or what is wrong with it.
-    pub fn row_of(&self, x: &Memory, call: Call, a: Answer) -> Result<Row, String> {
+    pub fn row_of(&self, x: &Memory, call: Call, said: &Said) -> Result<Row, String> {
         let name = match call {
             Call::Get(id) | Call::Set(id) | Call::SetIfNew(id) | Call::SetPrepared(id) | Call::Rank(id) | Call::RankIfSet(id) if id >= 0 => {
                 self.of_a_chunk(x, call, id as u64)
             }
             Call::Len | Call::IsEmpty | Call::HasAny | Call::Chunks => self.of_counts(call),
+            Call::Any(..) | Call::Iter(_) => self.looked(x, call).map_or(Row::Negative, |looked| self.of_looked(&looked, call)),
             Call::TotalCount if self.breaks(&[15]) => Row::Total,
             Call::PreAllocate(max) if max >= 0 => self.of_rows_and(Row::FreePage, self.breaks(&[12])),
             Call::IntoRanked => self.of_rows_and(Row::WrittenOver, self.breaks(&[14, 15, 16])),
@@ -217,18 +64,18 @@ impl Bad {
             _ => self.beside(),
         };
         let wanted = if name.exact() { self.exact(x, call) } else { None };
-        if wanted.is_none_or(|w| w == a) { Ok(name) } else { Err(format!("{a:?} and not {wanted:?} with nothing wrong where it looks ({name:?})")) }
+        if wanted.as_ref().is_none_or(|w| w == said) { Ok(name) } else { Err(format!("{said:?} and not {wanted:?}, nothing wrong where it looks ({name:?})")) }
     }
 
     /// The answer of a call that walks the table first: 3 where that finds something wrong, else that of the set that the table speaks of.
-    pub fn walking(&self, call: Call, lent: [usize; 4]) -> Option<Answer> {
-        let turn = |set: &Plain, from: bool, no: u64| if set.ranked == from { DONE } else { refused(no) };
+    pub fn walking(&self, call: Call, lent: [usize; 4]) -> Option<Said> {
+        let turn = |set: &Plain, from: bool, no: u64| if set.ranked == from { DONE } else { refused(no) }.into();
         let of = |set: &Plain| match call {
             Call::IntoRanked => turn(set, false, 4),
             Call::IntoOpen => turn(set, true, 5),
             _ => set.clone().call(call, lent),
         };
-        matches!(call, Call::PreAllocate(_) | Call::IntoRanked | Call::IntoOpen).then(|| self.walked.as_ref().map_or(refused(3), of))
+        matches!(call, Call::PreAllocate(_) | Call::IntoRanked | Call::IntoOpen).then(|| self.walked.as_ref().map_or(call.refused(3), of))
     }
 
     /// Planning walks first too. With nothing wrong where it looks, its boundaries are those of that set.
@@ -238,18 +85,6 @@ impl Bad {
             Some(set) if self.row_of_plan().exact() => set.plan(slots, room) == told.map(|r| (r, bounds.to_vec())),
             Some(_) => told != Err(3) && other::plan_fits(x, slots, room, told),
         }
-    }
-
-    /// Where the elements past the sizes begin; with sizes of no meaning, those that are not lent.
-    pub fn ends(&self, x: &Memory) -> [usize; 4] {
-        let z = self.z;
-        let lent = x.lent();
-        if !(9..=25).contains(&z.s) {
-            return lent;
-        }
-        let ends = [z.p.checked_shl(z.s as u32 - 6), z.r.checked_mul(z.m), z.p.checked_shl(z.s as u32 - 9), table_end(z)];
-        let ends = [(ends[0], z.p < 1 << 32), (ends[1], true), (ends[2], z.p < 1 << 32), (ends[3], true)];
-        std::array::from_fn(|k| if let (Some(n), true) = ends[k] { lent[k].min(n as usize) } else { lent[k] })
     }
 
     /// Planning's row.
@@ -290,6 +125,37 @@ impl Bad {
         }
     }
 
+    fn of_looked(&self, looked: &Looked, call: Call) -> Row {
+        match () {
+            _ if !looked.rising => Row::Order,
+            _ if looked.any(|e| e.chunk >= self.direct as u64 && matches!(e.word, Word::Absent)) => Row::EmptyEntry,
+            _ if looked.any(|e| matches!(e.word, Word::Row(_, 0))) => Row::NoLength,
+            _ if looked.any(|e| e.shared) => Row::Shared,
+            _ if looked.any(|e| !e.owner) => Row::Owner,
+            _ if looked.any(|e| e.falling) => Row::Falling,
+            _ if looked.any(|e| e.far) && matches!(call, Call::Iter(_)) => Row::Far,
+            _ => self.beside(),
+        }
+    }
+
+    /// What a range test or iteration says: 3, or the ids of the parts that it looks at. None where it hangs on a search, or an offset is listed as another.
+    pub fn running(&self, x: &Memory, call: Call) -> Option<Said> {
+        let iterates = matches!(call, Call::Iter(_));
+        if !iterates && !matches!(call, Call::Any(..)) {
+            return None;
+        }
+        if !self.entries_in {
+            return Some(call.refused(3));
+        }
+        let Some(looked) = self.looked(x, call) else { return Some(value(0).into()) };
+        match call {
+            _ if !looked.rising || looked.any(|e| e.falling || iterates && e.far) => None,
+            _ if looked.any(|e| e.outside) || iterates && looked.past && looked.ids.len() < 64 => Some(call.refused(3)),
+            Call::Iter(start) => Some(listed(&looked.ids, start)),
+            _ => Some(value((!looked.ids.is_empty()).into()).into()),
+        }
+    }
+
     fn of_a_chunk(&self, x: &Memory, call: Call, id: u64) -> Row {
         let (c, o) = (id >> self.s, id % (1 << self.s));
         let (at, entry) = self.place(c);
@@ -319,22 +185,15 @@ impl Bad {
         }
     }
 
-    /// Whether the one block count that a rank reads is not the members before the block.
-    fn blocks_wrong(&self, x: &Memory, w: Word, o: u64) -> bool {
-        let Word::Page(p) = w else { return false };
-        let Some(words) = page(x, self.s, p) else { return false };
-        let count = x.blocks.get((p << (self.s - 9) | o / 512) as usize).copied().unwrap_or(0);
-        u64::from(count) != bits(&words[..o as usize / 512 * 8])
-    }
-
-    /// Document 01's answer by the part that the call looks at. Counts and chunk ids are held in other.rs, for every row.
-    fn exact(&self, x: &Memory, call: Call) -> Option<Answer> {
+    /// Document 01's answer by the part that the call looks at. Counts and chunk ids are held in other.rs, range tests and
+    /// iteration in `running`, for every row.
+    fn exact(&self, x: &Memory, call: Call) -> Option<Said> {
         let at = |id: i64| {
             let (at, entry) = self.place(id as u64 >> self.s);
             let (has, below) = self.slot(x, entry.map_or(Word::Absent, |e| e.word), id as u64 % (1 << self.s));
             (id >= 0 && has, if id < 0 { 0 } else { self.entries.get(at).map_or(self.members, |e| e.before) + below })
         };
-        Some(match call {
+        let answer = match call {
             Call::Get(id) => value(at(id).0.into()),
             Call::Set(_) | Call::PreAllocate(_) | Call::IntoRanked | Call::IntoOpen => DONE,
             Call::SetIfNew(id) => value((id >= 0 && !at(id).0).into()),
@@ -342,6 +201,7 @@ impl Bad {
             Call::Rank(id) => value(at(id).1),
             Call::RankIfSet(id) => if at(id).0 { value(at(id).1) } else { NONE },
             _ => return None,
-        })
+        };
+        Some(answer.into())
     }
 }

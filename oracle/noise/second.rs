@@ -141,7 +141,7 @@ fn bits(words: &[u64]) -> u64 {
     words.iter().map(|w| u64::from(w.count_ones())).sum()
 }
 
-fn set_bits(words: &[u64]) -> Vec<u32> {
+pub fn set_bits(words: &[u64]) -> Vec<u32> {
     let mut all = vec![];
     for (k, &word) in words.iter().enumerate() {
         let mut left = word;

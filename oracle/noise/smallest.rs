@@ -1,8 +1,9 @@
 //! The smallest input of each row of docs/EXCEPTIONS.md, and inputs that once were answered and now are refused: what calls answer on them, one
 //! after the other.
-use crate::call::{Call, Call::*};
+use crate::bad::Bad;
+use crate::call::{Call, Call::*, Said, listed};
 use crate::library::{Answer, DONE, Memory, NONE, Sizes};
-use crate::rows::{Bad, NAMES, Row};
+use crate::rows::{NAMES, Row};
 use crate::second;
 
 #[derive(Clone, Copy)]
@@ -20,11 +21,15 @@ use Poke::*;
 #[derive(Clone, Copy)]
 enum Ask {
     Of(Call, Answer),
+    /// Iteration from a start: all ids of a record with the mark set.
+    List(i64, &'static [i64]),
+    /// A record that goes on: its start, the next one.
+    GoesOn(i64, i64),
     /// Planning with so many members to a partition: total and boundaries, or 3.
     Plan(u64, Option<(u64, &'static [i64])>),
 }
 
-use Ask::{Of, Plan};
+use Ask::{GoesOn, List, Of, Plan};
 
 /// A row's name, or none where the first call is refused; s m D V R P; calls that make the set; pokes; calls and their answers.
 type Case = (&'static str, [u64; 6], &'static [Call], &'static [Poke], &'static [Ask]);
@@ -37,21 +42,46 @@ const BAD: Answer = Answer { kind: 2, value: 3 };
 
 const TINY: [u64; 6] = [9, 4, 2, 1, 2, 1];
 
-const CASES: [Case; 31] = [
-    ("order", [9, 1, 0, 3, 3, 0], &[Set(512), Set(1024)], &[Table(16, 2), Table(19, 1)], &[Of(Get(512), NO), Of(SetIfNew(512), YES), Of(Chunks, THREE)]),
-    ("empty entry", [9, 1, 0, 1, 1, 0], &[], &[Table(7, 1)], &[Of(Get(0), NO), Of(Chunks, NO), Of(SetIfNew(0), refusal(6))]),
+/// Inserts of 1 to 64.
+const SIXTY_FOUR: [Call; 64] = {
+    let mut sets = [Set(1); 64];
+    let mut k = 0;
+    while k < 64 {
+        sets[k] = Set(k as i64 + 1);
+        k += 1;
+    }
+    sets
+};
+
+const CASES: [Case; 38] = [
+    (
+        "order", [9, 1, 0, 3, 3, 0], &[Set(512), Set(1024)], &[Table(16, 2), Table(19, 1)],
+        &[Of(Get(512), NO), Of(Any(0, 512), NO), List(0, &[1024, 512]), Of(SetIfNew(512), YES), Of(Chunks, THREE)],
+    ),
+    ("order", [9, 1, 1, 1, 1, 0], &[Set(512)], &[Table(18, 0)], &[Of(Any(0, 0), YES), List(0, &[0])]),
+    // records that lead back to each other
+    (
+        "order", [9, 1, 2, 1, 0, 2], &[PreAllocate(1023)],
+        &[Table(7, 1), Table(16, 0), Table(21, 1 << 28), Pages(0, u64::MAX), Pages(8, u64::MAX)], &[GoesOn(576, 64), GoesOn(64, 576)],
+    ),
+    ("empty entry", [9, 1, 0, 1, 1, 0], &[], &[Table(7, 1)], &[Of(Get(0), NO), Of(Any(0, 0), NO), List(0, &[]), Of(Chunks, NO), Of(SetIfNew(0), refusal(6))]),
     ("empty entry", [9, 1, 0, 2, 1, 0], &[], &[Table(7, 1)], &[Of(SetIfNew(0), YES), Of(Get(0), YES), Of(Check, YES)]),
-    ("no length", [9, 1, 1, 0, 1, 0], &[Set(0)], &[Table(16, 1)], &[Of(Get(0), NO), Of(Chunks, YES), Of(IsEmpty, YES), Of(SetIfNew(0), YES), Of(Check, YES)]),
-    ("shared", [9, 1, 2, 0, 1, 0], &[Set(0)], &[Table(18, 2)], &[Of(Get(512), YES), Of(Len, TWO)]),
+    (
+        "no length", [9, 1, 1, 0, 1, 0], &[Set(0)], &[Table(16, 1)],
+        &[Of(Get(0), NO), Of(Any(0, 0), NO), List(0, &[]), Of(Chunks, YES), Of(IsEmpty, YES), Of(SetIfNew(0), YES), Of(Check, YES)],
+    ),
+    ("shared", [9, 1, 2, 0, 1, 0], &[Set(0)], &[Table(18, 2)], &[Of(Get(512), YES), Of(Len, TWO), Of(Any(512, 512), YES), List(0, &[0, 512])]),
     ("shared", [9, 1, 2, 0, 0, 1], &[PreAllocate(0)], &[Table(18, 1 << 28)], &[Of(SetPrepared(512), YES), Of(Get(0), YES)]),
-    ("owner", [9, 1, 1, 0, 1, 0], &[Set(0)], &[Table(18, 0)], &[Of(Get(0), YES)]),
+    ("owner", [9, 1, 1, 0, 1, 0], &[Set(0)], &[Table(18, 0)], &[Of(Get(0), YES), Of(Any(0, 0), YES), List(0, &[0])]),
     ("words", [9, 1, 1, 0, 0, 0], &[], &[Table(16, 2)], &[Of(Chunks, YES), Of(HasAny, YES), Of(Len, BAD)]),
     (
         "falling", [9, 3, 1, 0, 1, 0], &[Set(1), Set(2), Set(3)], &[Rows(0, 9)],
-        &[Of(Get(2), NO), Of(Len, THREE), Of(IntoRanked, DONE), Of(Rank(2), NO), Of(RankIfSet(2), NONE)],
+        &[Of(Get(2), NO), Of(Any(2, 3), NO), List(2, &[9, 2, 3]), List(4, &[]), Of(Len, THREE), Of(IntoRanked, DONE), Of(Rank(2), NO), Of(RankIfSet(2), NONE)],
     ),
     ("falling", [9, 3, 1, 0, 1, 0], &[Set(1), Set(2)], &[Rows(0, 9)], &[Of(SetIfNew(2), YES), Of(Len, THREE)]),
-    ("far", [9, 1, 1, 0, 1, 1], &[Set(5)], &[Rows(0, 517)], &[Of(Len, YES), Of(SetIfNew(6), YES), Of(Get(5), YES)]),
+    ("far", [9, 1, 1, 0, 1, 1], &[Set(5)], &[Rows(0, 517)], &[List(6, &[5]), Of(Len, YES), Of(SetIfNew(6), YES), Of(Get(5), YES)]),
+    ("far", [9, 64, 1, 0, 1, 0], &SIXTY_FOUR, &[Rows(63, 512)], &[GoesOn(1, 1)]),
+    ("falling", [9, 64, 1, 0, 1, 0], &SIXTY_FOUR, &[Rows(63, 0)], &[GoesOn(1, 1)]),
     ("far", [9, 1, 1, 0, 1, 1], &[Set(5)], &[Rows(0, 517)], &[Of(PreAllocate(0), DONE), Of(Get(5), YES)]),
     ("named free", [9, 1, 2, 0, 1, 0], &[Set(0)], &[Table(20, 0)], &[Of(SetIfNew(513), YES), Of(Get(0), NO), Of(Get(1), YES)]),
     ("free row", [9, 2, 1, 0, 1, 0], &[], &[Rows(1, 7)], &[Of(SetIfNew(0), YES), Of(Len, YES), Of(Check, NO)]),
@@ -64,9 +94,17 @@ const CASES: [Case; 31] = [
     ("blocks", [9, 1, 1, 0, 0, 1], &[PreAllocate(0), IntoRanked], &[Blocks(0, 1)], &[Of(Rank(0), YES)]),
     ("written over", [9, 1, 0, 0, 0, 0], &[], &[Table(8, 1)], &[Of(IntoRanked, DONE), Of(TotalCount, NO), Of(Check, YES)]),
     ("written over", [9, 1, 0, 0, 0, 0], &[IntoRanked], &[Table(8, 1)], &[Of(IntoOpen, DONE), Of(Check, YES)]),
-    ("negative", [9, 1, 1, 0, 0, 0], &[], &[Table(16, 1)], &[Of(Get(-1), NO), Of(Get(0), BAD)]),
-    ("sizes", [9, 1, 0, 0, 0, 0], &[], &[Short(1)], &[Of(ChunkOf(5), NO), Of(Rank(5), refusal(5)), Of(Get(5), BAD)]),
-    ("elsewhere", [9, 1, 1, 0, 0, 0], &[], &[Table(9, 1)], &[Of(Get(0), NO), Of(SetIfNew(0), refusal(7))]),
+    (
+        "negative", [9, 1, 1, 0, 0, 0], &[], &[Table(16, 1)],
+        &[Of(Get(-1), NO), Of(Any(-5, -1), NO), Of(Any(1, 0), NO), Of(Get(0), BAD), Of(Any(-5, 0), BAD), Of(Iter(-1), BAD)],
+    ),
+    ("sizes", [9, 1, 0, 0, 0, 0], &[], &[Short(1)], &[Of(ChunkOf(5), NO), Of(Rank(5), refusal(5)), Of(Get(5), BAD), Of(Any(1, 0), BAD), Of(Iter(0), BAD)]),
+    ("elsewhere", [9, 1, 1, 0, 0, 0], &[], &[Table(9, 1)], &[Of(Get(0), NO), Of(Any(0, 0), NO), List(0, &[]), Of(SetIfNew(0), refusal(7))]),
+    // a hit, or a full record and a hit past it, before a part that is refused
+    ("elsewhere", [9, 1, 2, 0, 1, 0], &[Set(0)], &[Table(18, 1 << 28)], &[Of(Any(0, 512), YES), Of(Any(1, 512), BAD), Of(Iter(0), BAD)]),
+    ("elsewhere", [9, 1, 2, 0, 0, 1], &[PreAllocate(0)], &[Pages(0, u64::MAX), Pages(1, 1), Table(18, 1)], &[GoesOn(0, 64), Of(Iter(1), BAD)]),
+    // a chunk id that no id has
+    ("elsewhere", [9, 1, 0, 1, 1, 0], &[Set(0)], &[Table(16, 1 << 54)], &[Of(Any(0, i64::MAX), NO), Of(Iter(0), BAD)]),
     // refused since short calls hold slots against R and P, entries against V, and the walk tests every rule of the table
     ("", [9, 2, 0, 0, 1, 0], &[], &[Table(7, 1), Table(17, 2)], &[Of(SetIfNew(5), BAD)]),
     ("", [9, 2, 0, 0, 3, 0], &[], &[Table(7, 1), Table(17, 2)], &[Of(SetIfNew(5), BAD)]),
@@ -89,30 +127,45 @@ fn poke(x: &mut Memory, p: Poke) {
     }
 }
 
-fn ask(x: &mut Memory, ask: Ask, of: &str) {
+/// What was said, but of a plan.
+fn ask(x: &mut Memory, ask: Ask, of: &str) -> Option<(Call, Said)> {
+    let mut same = |call: Call, wanted: Said| {
+        let said = call.make(x);
+        assert_eq!(said, wanted, "smallest input of {of}: {call:?}");
+        Some((call, said))
+    };
     match ask {
-        Of(call, wanted) => assert_eq!(call.make(x), wanted, "smallest input of {of}: {call:?}"),
+        Of(call, wanted) => same(call, if wanted.kind == 2 { call.refused(wanted.value) } else { wanted.into() }),
+        List(start, ids) => same(Iter(start), listed(ids, start)),
+        GoesOn(start, next) => {
+            let said = Iter(start).make(x);
+            assert!(matches!(&said, Said::Listed(r) if r.count == 64 && !r.end && r.next == next), "smallest input of {of}: a record that goes on is {said:?}");
+            Some((Iter(start), said))
+        }
         Plan(slots, wanted) => {
             let mut bounds = [0; 4];
             let a = x.plan(slots, &mut bounds);
             let told = (a.kind == 1).then(|| (a.total, &bounds[..a.partitions as usize - 1]));
             assert!(told == wanted && (a.kind == 1 || a.refusal == 3), "smallest input of {of}: planning with {slots} answers {told:?}");
+            None
         }
     }
 }
 
-/// Every case, and every row has one.
+/// Every case, and every row has one; answers fall under it as long as memory is as it was poked.
 pub fn run() {
     for (name, [s, m, d, v, r, p], made, pokes, asks) in CASES {
         let mut x = Memory::new(Sizes { s, m, d, v, r, p });
-        made.iter().for_each(|call| assert!(call.make(&mut x).kind != 2, "smallest input of {name}: {call:?} is refused"));
+        made.iter().for_each(|call| assert!(call.make(&mut x).refusal().is_none(), "smallest input of {name}: {call:?} is refused"));
         pokes.iter().for_each(|&p| poke(&mut x, p));
         let broken = second::read(&x).expect_err("memory of a smallest input follows the layout");
-        if let (Of(call, a), false) = (asks[0], name.is_empty()) {
-            assert_eq!(Bad::new(&x, broken).row_of(&x, call, a).map(Row::name), Ok(name), "smallest input: {call:?}");
+        let (poked, bad, of) = (x.clone(), Bad::new(&x, broken), if name.is_empty() { "a refusal" } else { name });
+        for &a in asks {
+            let as_poked = x == poked;
+            if let Some((call, said)) = ask(&mut x, a, of).filter(|(_, said)| as_poked && said.refusal().is_none()) {
+                assert_eq!(bad.row_of(&poked, call, &said).map(Row::name), Ok(name), "smallest input: {call:?}");
+            }
         }
-        let of = if name.is_empty() { "a refusal" } else { name };
-        asks.iter().for_each(|&a| ask(&mut x, a, of));
     }
     assert!(NAMES.iter().all(|name| CASES.iter().any(|case| case.0 == *name)), "a row without a smallest input");
     let list = std::fs::read_to_string("docs/EXCEPTIONS.md").expect("docs/EXCEPTIONS.md");

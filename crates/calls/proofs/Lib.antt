@@ -13,6 +13,7 @@ pub mod Verdicts
 pub mod RowEdits
 pub mod PageEdits
 pub mod Places
+pub mod Spots
 pub mod Plans
 pub mod Grown
 pub mod Wanted

@@ -3,14 +3,12 @@ use mathlib.Core.Path.{_≡_, refl, ap, ap₂, _∙_}
 use mathlib.Core.Bool.{Bool, true, false, cond, _&&_}
 use Prim.Native.Nat.{ℕ, _/_, _%_}
 use lib.IntN.{ℤ, pos, negsuc}
-use lib.ListN.{getD}
 use borrow.Author.Tests.{le-leb}
 use Rattle.sums.specs.Ids.{has}
-use Rattle.sparse.specs.Row.{rowOf, member, belowOf}
-use Rattle.sparse.specs.Search.{placeIf}
-use Rattle.sparse.proofs.Searches.{search-rising}
+use Rattle.sparse.proofs.Searches.{found-rising}
 use Rattle.layout.specs.Mem.{Mem}
 use Rattle.document.specs.Sizes.{InRange, top}
+use Rattle.document.specs.Refusals.{not-laid-out}
 use Rattle.layout.specs.Sizes.{head}
 use Rattle.layout.specs.Places.{rowPart}
 use Rattle.layout.specs.Entries.{placeOf}
@@ -26,25 +24,21 @@ use Rattle.layout.specs.declared.place.Place.the-variants.{Absent, Sparse, Dens
 use Rattle.layout_laws.proofs.Short.{word-in-is, spot-is}
 use Rattle.layout_laws.proofs.Walked.{laid-walked}
 use Rattle.layout_laws.proofs.Members.{listed-rising, listed-of}
-use Rattle.calls.specs.Reading.{shiftOk, spotIf, isFound, hasAt, getBy, chunkOfBy}
+use Rattle.calls.specs.Reading.{shiftOk, spotIf, hasAt, getBy, chunkOfBy}
 
 pub shift-ok : (x : Mem) → InRange (head x) → shiftOk (x .table) ≡ true
-shift-ok x z = ap₂ _&&_ (le-leb 9 (getD (x .table) 0 0) (z .s-low)) (le-leb (getD (x .table) 0 0) 25 (z .s-high))
+shift-ok x z = ap₂ _&&_ (le-leb 9 (head x .s) (z .s-low)) (le-leb (head x .s) 25 (z .s-high))
 
 -- the short test finds each chunk's place
 pub spot-of : {x : Mem} → Walked x (head x) → (c : ℕ) → spotIf x (wordIn (x .table) c) ≡ spotOn (head x) (placeOf (head x) (x .table) c)
 spot-of {x} w c = ap (spotIf x) (word-in-is x w c) ∙ spot-is w c
-
-found-if : (b : Bool) (i : ℕ) → isFound (placeIf b i) ≡ b
-found-if true i = refl
-found-if false i = refl
 
 -- what is looked up at a place is the place's offset
 pub has-at : (h : Sizes) (x : Mem) (p : Place) (o : ℕ) → RowListed h (x .rows) p → hasAt x o (spotOn h p) ≡ truth.Is (offsets h x p o)
 has-at h x Absent o w = refl
 has-at h x (Sparse r l) o w =
     let row = rowPart h (x .rows) r in
-    ap truth.Is (ap isFound (search-rising row l (listed-rising h row l w) o) ∙ found-if (member (rowOf row) l o) (belowOf (rowOf row) l o))
+    ap truth.Is (found-rising row l (listed-rising h row l w) o)
 has-at h x (Dense p) o w = refl
 
 module _ {x : Mem} (w : Follows x) where
@@ -52,16 +46,16 @@ module _ {x : Mem} (w : Follows x) where
   pub get-is : (z : ℤ) → getBy x z ≡ truth.Is (has (holds x) z)
   unfolding getBy holds
   get-is (pos n) =
-      ap (λ (b : Bool). cond b (hasAt x (n % top (head x)) (spotIf x (wordIn (x .table) (n / top (head x))))) (truth.Refused 3)) (shift-ok x (w .sizes))
+      ap (λ (b : Bool). cond b (hasAt x (n % top (head x)) (spotIf x (wordIn (x .table) (n / top (head x))))) (truth.Refused not-laid-out)) (shift-ok x (w .sizes))
       ∙ ap (hasAt x (n % top (head x))) (spot-of (laid-walked w) (n / top (head x)))
       ∙ has-at (head x) x (placeOf (head x) (x .table) (n / top (head x))) (n % top (head x)) (listed-of w (n / top (head x)))
-  get-is (negsuc n) = ap (λ (b : Bool). cond b (truth.Is false) (truth.Refused 3)) (shift-ok x (w .sizes))
+  get-is (negsuc n) = ap (λ (b : Bool). cond b (truth.Is false) (truth.Refused not-laid-out)) (shift-ok x (w .sizes))
 
   -- the chunk id of an id of 0 or more
   pub chunk-of-is : (n : ℕ) → chunkOfBy x (pos n) ≡ perhaps.Of (n / top (head x))
   unfolding chunkOfBy
-  chunk-of-is n = ap (λ (b : Bool). cond b (perhaps.Of (n / top (head x))) (perhaps.Refused 3)) (shift-ok x (w .sizes))
+  chunk-of-is n = ap (λ (b : Bool). cond b (perhaps.Of (n / top (head x))) (perhaps.Refused not-laid-out)) (shift-ok x (w .sizes))
 
   pub chunk-of-none : (n : ℕ) → chunkOfBy x (negsuc n) ≡ perhaps.Nothing
   unfolding chunkOfBy
-  chunk-of-none n = ap (λ (b : Bool). cond b perhaps.Nothing (perhaps.Refused 3)) (shift-ok x (w .sizes))
+  chunk-of-none n = ap (λ (b : Bool). cond b perhaps.Nothing (perhaps.Refused not-laid-out)) (shift-ok x (w .sizes))

@@ -12,6 +12,7 @@ use Rattle.layout.specs.Mem.{Mem}
 use Rattle.layout.specs.Sizes.{headerAt, head}
 use Rattle.layout.specs.Entries.{entries, wordAt}
 use Rattle.layout.specs.Short.{entriesIn}
+use Rattle.document.specs.Refusals.{not-laid-out}
 use Rattle.document.specs.declared.answer.Truth.{Truth}
 use Rattle.document.specs.declared.answer.Truth.the-variants as truth
 use Rattle.document.specs.declared.answer.Amount.{Amount}
@@ -59,14 +60,14 @@ partsOk x = entriesOk (x .table) && allTo (goodAt x) (entriesOf x)
 
 -- `len`, `is_empty`
 unfoldable pub lenBy : Mem → Amount
-lenBy x = cond (partsOk x) (amount.Of (sumTo (sizeBy x) (entriesOf x))) (amount.Refused 3)
+lenBy x = cond (partsOk x) (amount.Of (sumTo (sizeBy x) (entriesOf x))) (amount.Refused not-laid-out)
 
 unfoldable pub isEmptyBy : Mem → Truth
-isEmptyBy x = cond (partsOk x) (truth.Is (allTo (λ (e : ℕ). eqb (sizeBy x e) 0) (entriesOf x))) (truth.Refused 3)
+isEmptyBy x = cond (partsOk x) (truth.Is (allTo (λ (e : ℕ). eqb (sizeBy x e) 0) (entriesOf x))) (truth.Refused not-laid-out)
 
 -- `has_any`, `allocated_chunk_count`
 unfoldable pub hasAnyBy : Mem → Truth
-hasAnyBy x = cond (entriesOk (x .table)) (truth.Is (not (eqb (count (usedAt x) (entriesOf x)) 0))) (truth.Refused 3)
+hasAnyBy x = cond (entriesOk (x .table)) (truth.Is (not (eqb (count (usedAt x) (entriesOf x)) 0))) (truth.Refused not-laid-out)
 
 unfoldable pub chunksBy : Mem → Amount
-chunksBy x = cond (entriesOk (x .table)) (amount.Of (count (usedAt x) (entriesOf x))) (amount.Refused 3)
+chunksBy x = cond (entriesOk (x .table)) (amount.Of (count (usedAt x) (entriesOf x))) (amount.Refused not-laid-out)

@@ -3,7 +3,7 @@ use Prim.Native.Nat.{ℕ, _+_}
 use mathlib.Core.List.{List}
 use mathlib.Core.Bool.{Bool, true, false, cond, _&&_}
 use lib.IntN.{ℤ}
-use lib.ListN.{length, getD}
+use lib.ListN.{length}
 use lib.Dec.{leb, ltb, eqb}
 use Rattle.numbers.specs.Ids.{splitOf}
 use Rattle.numbers.specs.declared.Split.{Split}
@@ -139,7 +139,7 @@ insertAt x (split.At c o) = acted x c o (insertPlan x c o)
 insertAt x split.Negative = told (Is false) x
 
 unfoldable pub insertBy : Mem → ℤ → Told
-insertBy x z = ifOpen x (insertAt x (splitOf (getD (x .table) 0 0) z))
+insertBy x z = ifOpen x (insertAt x (splitOf (head x .s) z))
 
 -- the prepared insert
 abbrev pub preparedAt : Mem → Split → Told
@@ -147,4 +147,4 @@ preparedAt x (split.At c o) = acted x c o (preparedPlan x c o)
 preparedAt x split.Negative = told (Refused not-prepared) x
 
 unfoldable pub preparedBy : Mem → ℤ → Told
-preparedBy x z = ifOpen x (preparedAt x (splitOf (getD (x .table) 0 0) z))
+preparedBy x z = ifOpen x (preparedAt x (splitOf (head x .s) z))

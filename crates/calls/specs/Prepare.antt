@@ -1,6 +1,6 @@
 -- `pre_allocate` on any memory: judged by arithmetic, then chunk after chunk made dense.
 use mathlib.Core.Path.{_≡_}
-use Prim.Native.Nat.{ℕ, zero, suc, _+_, _-_, _*_, _/_, _≤_}
+use Prim.Native.Nat.{ℕ, zero, suc, _+_, _-_, _/_, _≤_}
 use mathlib.Core.List.{List}
 use mathlib.Core.Bool.{false, cond, _&&_}
 use lib.IntN.{ℤ, pos, negsuc}
@@ -10,7 +10,7 @@ use Rattle.dense.specs.Bits.{withRow}
 use Rattle.layout.specs.Mem.{Mem}
 use Rattle.document.specs.Sizes.{top}
 use Rattle.document.specs.Refusals.{not-laid-out, is-ranked, overflow-full, pages-full}
-use Rattle.layout.specs.Sizes.{head, modeAt, overCount}
+use Rattle.layout.specs.Sizes.{overStart, head, modeAt, overCount}
 use Rattle.layout.specs.Places.{hasPage, rowPart, pagePart, pageOwner}
 use Rattle.layout.specs.Entries.{entries, chunkAt, placeAt, placeOf}
 use Rattle.layout.specs.Short.{overPlace}
@@ -50,7 +50,7 @@ chunksTo h (negsuc n) = 0
 
 -- overflow entries and pages that are needed once chunks 0 to c are dense
 unfoldable pub overNeeded : Sizes → List ℕ → ℕ → ℕ
-overNeeded h t c = overCount t - overPlace t (16 + 2 * h .d) (overCount t) (c + 1) + (c + 1 - h .d)
+overNeeded h t c = overCount t - overPlace t (overStart (h .d)) (overCount t) (c + 1) + (c + 1 - h .d)
 
 unfoldable pub pagesNeeded : Sizes → List ℕ → ℕ → ℕ
 pagesNeeded h t c = count (λ (e : ℕ). ltb c (chunkAt h t e) && hasPage (placeAt h t e)) (entries h t) + (c + 1)

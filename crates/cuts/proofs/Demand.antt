@@ -14,17 +14,17 @@ use Rattle.document.specs.declared.plan.Planning.the-variants.{Made}
 use Rattle.cuts.proofs.Intervals.{span-part, plans-bounded}
 
 -- n intervals that are those of a plan are a plan
-module _ (P : Ids) (S n : ℕ) (cut other : ℕ → Interval) (same : (k : ℕ) → k < n → cut k ≡ other k) where
+module _ (P : Ids) (slots n : ℕ) (cut other : ℕ → Interval) (same : (k : ℕ) → k < n → cut k ≡ other k) where
   within : (z : ℤ) (k : ℕ) → k < n → inside z (cut k) ≡ inside z (other k)
   within z k l = ap (inside z) (same k l)
 
-  cutting-same : Cutting P S n other → Cutting P S n cut
+  cutting-same : Cutting P slots n other → Cutting P slots n cut
   cutting-same c = record {
     covers = λ z f. let o = c .covers z f in (o .0, o .1, within z (o .0) (o .1) ∙ o .2);
-    small = λ k l. subst (λ (i : Interval). held P i ≤ size S) (sym (same k l)) (c .small k l);
+    small = λ k l. subst (λ (i : Interval). held P i ≤ size slots) (sym (same k l)) (c .small k l);
   }
 
-  planned-same : Planned P S n other → Planned P S n cut
+  planned-same : Planned P slots n other → Planned P slots n cut
   planned-same p = record {
     covers = λ z f. let o = p .covers z f in (o .0, o .1, within z (o .0) (o .1) ∙ o .2, λ j l h. o .3 j l (sym (within z j l) ∙ h));
     members = λ z f e k l. rw (same k l) (p .members z f e k l);
@@ -34,9 +34,9 @@ module _ (P : Ids) (S n : ℕ) (cut other : ℕ → Interval) (same : (k : ℕ) 
   }
 
 -- whatever boundaries a planning left
-pub spans-planned : {q : State} {S : ℕ} {bs cs : List ℤ} → PlansFor q S bs (Made (planOf (total (q .members)) S)) cs
-    → Planned (q .members) S (parts (total (q .members)) S) (λ (k : ℕ). intervalOf (spanAt (planOf (total (q .members)) S) cs k))
-spans-planned {q} {S} {bs} {cs} p =
+pub spans-planned : {q : State} {slots : ℕ} {bs cs : List ℤ} → PlansFor q slots bs (Made (planOf (total (q .members)) slots)) cs
+    → Planned (q .members) slots (parts (total (q .members)) slots) (λ (k : ℕ). intervalOf (spanAt (planOf (total (q .members)) slots) cs k))
+spans-planned {q} {slots} {bs} {cs} p =
     let P = q .members in
-    let n = parts (total P) S in
-    planned-same P S n (λ (k : ℕ). intervalOf (spanAt (planOf (total P) S) cs k)) (part P S) (span-part P S cs (plans-bounded p)) (planned P S)
+    let n = parts (total P) slots in
+    planned-same P slots n (λ (k : ℕ). intervalOf (spanAt (planOf (total P) slots) cs k)) (part P slots) (span-part P slots cs (plans-bounded p)) (planned P slots)

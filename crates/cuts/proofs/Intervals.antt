@@ -79,63 +79,63 @@ low-later bs k l = ap (λ (b : Bool). cond b (negsuc (2 ^ 63 - 1)) (getD bs (k -
 
 -- ---- a plan that was made
 
-size-size : (S : ℕ) → size (size S) ≡ size S
-size-size S = omega arith
+size-size : (slots : ℕ) → size (size slots) ≡ size slots
+size-size slots = omega arith
 
-parts-size : (t S : ℕ) → parts t (size S) ≡ parts t S
-parts-size t S = ap (λ (s : ℕ). max 1 ((t + (s - 1)) / s)) (size-size S)
+parts-size : (t slots : ℕ) → parts t (size slots) ≡ parts t slots
+parts-size t slots = ap (λ (s : ℕ). max 1 ((t + (s - 1)) / s)) (size-size slots)
 
-pub record-ok : (t S : ℕ) → recordOk (planOf t S) ≡ true
-record-ok t S = ap₂ (λ (a b : Bool). not a && b) (ne-eqb (size S) 0 (λ e. omega arith)) (eq-eqb (parts t S) (parts t (size S)) (sym (parts-size t S)))
+pub record-ok : (t slots : ℕ) → recordOk (planOf t slots) ≡ true
+record-ok t slots = ap₂ (λ (a b : Bool). not a && b) (ne-eqb (size slots) 0 (λ e. omega arith)) (eq-eqb (parts t slots) (parts t (size slots)) (sym (parts-size t slots)))
 
 -- the boundaries are those of the plain set
-pub record Bounded (P : Ids) (S : ℕ) (cs : List ℤ) : Type 0 where
-  pub enough : parts (total P) S - 1 ≤ length cs
-  pub least : (k : ℕ) → suc k < parts (total P) S → (b : ℕ) × (getD cs k (pos 0) ≡ pos b) × Least P (suc k * size S) b
+pub record Bounded (P : Ids) (slots : ℕ) (cs : List ℤ) : Type 0 where
+  pub enough : parts (total P) slots - 1 ≤ length cs
+  pub least : (k : ℕ) → suc k < parts (total P) slots → (b : ℕ) × (getD cs k (pos 0) ≡ pos b) × Least P (suc k * size slots) b
 
-module _ (P : Ids) (S : ℕ) (cs : List ℤ) (w : Bounded P S cs) where
-  bound-is : (k : ℕ) → suc k < parts (total P) S → getD cs k (pos 0) ≡ pos (boundary P S (suc k))
-  bound-is k l = let b = w .least k l in b .1 ∙ ap pos (least-one (b .2) (boundary-is P S k l))
+module _ (P : Ids) (slots : ℕ) (cs : List ℤ) (w : Bounded P slots cs) where
+  bound-is : (k : ℕ) → suc k < parts (total P) slots → getD cs k (pos 0) ≡ pos (boundary P slots (suc k))
+  bound-is k l = let b = w .least k l in b .1 ∙ ap pos (least-one (b .2) (boundary-is P slots k l))
 
-  low-is : (k : ℕ) → k < parts (total P) S → lowAt cs k ≡ lowEnd P S k
+  low-is : (k : ℕ) → k < parts (total P) slots → lowAt cs k ≡ lowEnd P slots k
   unfolding lowEnd
   low-is zero l = refl
   low-is (suc k) l = let e : suc k - 1 ≡ k = omega arith in low-later cs (suc k) (omega arith) ∙ ap (λ (n : ℕ). getD cs n (pos 0)) e ∙ bound-is k l
 
-  pub span-part : (k : ℕ) → k < parts (total P) S → intervalOf (spanAt (planOf (total P) S) cs k) ≡ part P S k
-  span-part k l = go (ltb (k + 1) (parts (total P) S)) refl
+  pub span-part : (k : ℕ) → k < parts (total P) slots → intervalOf (spanAt (planOf (total P) slots) cs k) ≡ part P slots k
+  span-part k l = go (ltb (k + 1) (parts (total P) slots)) refl
     where
-      go : (b : Bool) → ltb (k + 1) (parts (total P) S) ≡ b → intervalOf (spanAt (planOf (total P) S) cs k) ≡ part P S k
+      go : (b : Bool) → ltb (k + 1) (parts (total P) slots) ≡ b → intervalOf (spanAt (planOf (total P) slots) cs k) ≡ part P slots k
       go true e =
-          let m = ltb-true (k + 1) (parts (total P) S) e in
-          ap intervalOf (span-between (planOf (total P) S) cs k m) ∙ ap₂ interval (low-is k l) (ap before (bound-is k (omega arith)) ∙ sym (high-next P S k (omega arith)))
+          let m = ltb-true (k + 1) (parts (total P) slots) e in
+          ap intervalOf (span-between (planOf (total P) slots) cs k m) ∙ ap₂ interval (low-is k l) (ap before (bound-is k (omega arith)) ∙ sym (high-next P slots k (omega arith)))
       go false e =
-          let m = ltb-false (k + 1) (parts (total P) S) e in
-          ap intervalOf (span-from (planOf (total P) S) cs k m) ∙ ap₂ interval (low-is k l) (sym (high-last P S k (omega arith)))
+          let m = ltb-false (k + 1) (parts (total P) slots) e in
+          ap intervalOf (span-from (planOf (total P) slots) cs k m) ∙ ap₂ interval (low-is k l) (sym (high-last P slots k (omega arith)))
 
-  plan-ok : planOk (planOf (total P) S) cs ≡ true
-  plan-ok = ap₂ _&&_ (record-ok (total P) S) (le-leb (parts (total P) S - 1) (length cs) (w .enough))
+  plan-ok : planOk (planOf (total P) slots) cs ≡ true
+  plan-ok = ap₂ _&&_ (record-ok (total P) slots) (le-leb (parts (total P) slots - 1) (length cs) (w .enough))
 
   -- `ids` answers the parts of the set
-  pub ids-part : (k : ℕ) → k < parts (total P) S → idsAnswer (planOf (total P) S) cs k ≡ spanned.Of (spanAt (planOf (total P) S) cs k)
-  ids-part k l = ids-there (planOf (total P) S) cs k plan-ok l
+  pub ids-part : (k : ℕ) → k < parts (total P) slots → idsAnswer (planOf (total P) slots) cs k ≡ spanned.Of (spanAt (planOf (total P) slots) cs k)
+  ids-part k l = ids-there (planOf (total P) slots) cs k plan-ok l
 
 -- `ranks` answers a part's first rank and how many members it holds
-pub ranks-part : (P : Ids) (S k : ℕ) → k < parts (total P) S → ranksAnswer (planOf (total P) S) k ≡ ranks.Of (k * size S) (held P (part P S k))
-ranks-part P S k l = ranks-there (planOf (total P) S) k (record-ok (total P) S) l ∙ ap (ranks.Of (k * size S)) (sym (part-held P S k l))
+pub ranks-part : (P : Ids) (slots k : ℕ) → k < parts (total P) slots → ranksAnswer (planOf (total P) slots) k ≡ ranks.Of (k * size slots) (held P (part P slots k))
+ranks-part P slots k l = ranks-there (planOf (total P) slots) k (record-ok (total P) slots) l ∙ ap (ranks.Of (k * size slots)) (sym (part-held P slots k l))
 
 -- a plan was made: there was room
-room-of : (P : Ids) (S room : ℕ) (r : Bool) → Made (planOf (total P) S) ≡ cond r (cond (ltb room (parts (total P) S - 1)) (Refused 11) (Made (planOf (total P) S))) (Refused 5) → parts (total P) S - 1 ≤ room
-room-of P S room false e = absurd (let z : _≡_ {A = ℕ} 0 1 = cc in omega arith)
-room-of P S room true e = go (ltb room (parts (total P) S - 1)) refl e
+room-of : (P : Ids) (slots room : ℕ) (r : Bool) → Made (planOf (total P) slots) ≡ cond r (cond (ltb room (parts (total P) slots - 1)) (Refused 11) (Made (planOf (total P) slots))) (Refused 5) → parts (total P) slots - 1 ≤ room
+room-of P slots room false e = absurd (let z : _≡_ {A = ℕ} 0 1 = cc in omega arith)
+room-of P slots room true e = go (ltb room (parts (total P) slots - 1)) refl e
   where
-    go : (b : Bool) → ltb room (parts (total P) S - 1) ≡ b → Made (planOf (total P) S) ≡ cond b (Refused 11) (Made (planOf (total P) S)) → parts (total P) S - 1 ≤ room
+    go : (b : Bool) → ltb room (parts (total P) slots - 1) ≡ b → Made (planOf (total P) slots) ≡ cond b (Refused 11) (Made (planOf (total P) slots)) → parts (total P) slots - 1 ≤ room
     go true t q = absurd (let z : _≡_ {A = ℕ} 0 1 = cc in omega arith)
-    go false t q = ltb-false room (parts (total P) S - 1) t
+    go false t q = ltb-false room (parts (total P) slots - 1) t
 
 -- boundaries as a planning leaves them
-pub plans-bounded : {q : State} {S : ℕ} {bs cs : List ℤ} → PlansFor q S bs (Made (planOf (total (q .members)) S)) cs → Bounded (q .members) S cs
+pub plans-bounded : {q : State} {slots : ℕ} {bs cs : List ℤ} → PlansFor q slots bs (Made (planOf (total (q .members)) slots)) cs → Bounded (q .members) slots cs
 unfolding planAnswer
-plans-bounded {q} {S} {bs} {cs} p =
-    let l = room-of (q .members) S (length bs) (q .mode) (p .answer) in
+plans-bounded {q} {slots} {bs} {cs} p =
+    let l = room-of (q .members) slots (length bs) (q .mode) (p .answer) in
     record { enough = (let e = p .same-length in omega arith); least = p .boundaries refl }

@@ -8,6 +8,7 @@ use lib.ListN.{length, set}
 use lib.Dec.{leb, ltb, eqb}
 use Rattle.sums.specs.Cuts.{size, parts}
 use Rattle.document.specs.Plan.{planOf}
+use Rattle.document.specs.Refusals.{not-laid-out, is-open, no-room}
 use Rattle.layout.specs.Mem.{Mem}
 use Rattle.layout.specs.Sizes.{head, modeAt, totalAt}
 use Rattle.layout.specs.Meaning.{ranked}
@@ -38,8 +39,8 @@ boundaryBy x m = narrowed (rankIn x) m 0 (2 ^ 63 - 1)
 
 -- boundaries 1 to k, in the first k places
 unfoldable pub boundsTo : Mem → ℕ → List ℤ → ℕ → List ℤ
-boundsTo x S bs zero = bs
-boundsTo x S bs (suc k) = set (boundsTo x S bs k) k (pos (boundaryBy x (suc k * size S)))
+boundsTo x slots bs zero = bs
+boundsTo x slots bs (suc k) = set (boundsTo x slots bs k) k (pos (boundaryBy x (suc k * size slots)))
 
 -- an answer, and the boundaries after the call
 pub record Cut : Type 0 where
@@ -50,8 +51,8 @@ abbrev pub cut : Planning → List ℤ → Cut
 cut a bs = record { answer = a; bounds = bs }
 
 abbrev pub planTotal : Mem → ℕ → List ℤ → ℕ → Cut
-planTotal x S bs t = cond (ltb (length bs) (parts t S - 1)) (cut (Refused 11) bs) (cut (Made (planOf t S)) (boundsTo x S bs (parts t S - 1)))
+planTotal x slots bs t = cond (ltb (length bs) (parts t slots - 1)) (cut (Refused no-room) bs) (cut (Made (planOf t slots)) (boundsTo x slots bs (parts t slots - 1)))
 
 -- 3, then 5, then 11
 unfoldable pub planBy : Mem → ℕ → List ℤ → Cut
-planBy x S bs = cond (walked x) (cond (eqb (modeAt (x .table)) 1) (planTotal x S bs (totalAt (x .table))) (cut (Refused 5) bs)) (cut (Refused 3) bs)
+planBy x slots bs = cond (walked x) (cond (eqb (modeAt (x .table)) 1) (planTotal x slots bs (totalAt (x .table))) (cut (Refused is-open) bs)) (cut (Refused not-laid-out) bs)

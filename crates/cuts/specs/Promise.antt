@@ -10,7 +10,7 @@ use Rattle.document.specs.Plan.{PlansFor}
 use Rattle.document.specs.declared.plan.Planning.{Planning}
 use Rattle.cuts.specs.Plan.{cut, planBy}
 
--- on memory x planning for S answers a and takes boundaries bs to boundaries cs
-pub record Plans (x : Mem) (S : ℕ) (bs : List ℤ) (a : Planning) (cs : List ℤ) : Type 0 where
-  pub by : cut a cs ≡ planBy x S bs
-  pub says : Follows x → PlansFor (stateOf x) S bs a cs
+-- on memory x planning for so many slots answers a and takes boundaries bs to boundaries cs
+pub record Plans (x : Mem) (slots : ℕ) (bs : List ℤ) (a : Planning) (cs : List ℤ) : Type 0 where
+  pub by : cut a cs ≡ planBy x slots bs
+  pub says : Follows x → PlansFor (stateOf x) slots bs a cs

@@ -7,10 +7,9 @@ use document::plan::Plan;
 use document::plan::Ranks;
 use document::plan::Span;
 use document::plan::Spanned;
+use document::refusal;
+use numbers::id;
 use numbers::order;
-
-// The smallest i64: where partition 0 begins.
-const SMALLEST: i64 = -9223372036854775808;
 
 // How many partitions a plan has.
 pub fn partitions(p: Plan) -> u64
@@ -19,7 +18,7 @@ pub fn partitions(p: Plan) -> u64
     p.partitions
 }
 
-// S is not 0, and the number of partitions is that of the total.
+// Slots are not 0, and the number of partitions is that of the total.
 fn record_ok(p: Plan) -> bool
     ensures { λ b. ⌜ b ≡ recordOk p ⌝ }
 {
@@ -33,12 +32,12 @@ fn plan_ok(p: Plan, bounds: &[i64]) -> bool
     record_ok(p) & (order::minus(p.partitions, 1) <= bounds.len() as u64)
 }
 
-// Partition k's low end.
+// Partition k's low end: partition 0 begins at the smallest i64.
 fn low(bounds: &[i64], k: u64) -> i64
     ensures { λ z. ⌜ z ≡ lowAt (now (bounds .entry)) k ⌝ }
 {
     if k == 0 {
-        return SMALLEST;
+        return id::SMALLEST;
     }
     bound::at(bounds, k - 1)
 }
@@ -48,10 +47,10 @@ pub fn ids(p: Plan, bounds: &[i64], k: u64) -> Spanned
     ensures { λ a. ⌜ a ≡ idsAnswer p (now (bounds .entry)) k ⌝ }
 {
     if !plan_ok(p, bounds) {
-        return Spanned::Refused(3);
+        return Spanned::Refused(refusal::NOT_LAID_OUT);
     }
     if p.partitions <= k {
-        return Spanned::Refused(12);
+        return Spanned::Refused(refusal::NO_PARTITION);
     }
     let lo = low(bounds, k);
     if k + 1 < p.partitions {
@@ -66,10 +65,10 @@ pub fn ranks(p: Plan, k: u64) -> Ranks
     ensures { λ a. ⌜ a ≡ ranksAnswer p k ⌝ }
 {
     if !record_ok(p) {
-        return Ranks::Refused(3);
+        return Ranks::Refused(refusal::NOT_LAID_OUT);
     }
     if p.partitions <= k {
-        return Ranks::Refused(12);
+        return Ranks::Refused(refusal::NO_PARTITION);
     }
     let first = k * p.slots;
     Ranks::Of(first, order::least_of(p.slots, p.total - first))
@@ -85,7 +84,7 @@ pub fn in_partition(id: i64, i: Span) -> bool
     }
 }
 
-// Whether a range of ids, both ends included, rangeMeets an interval.
+// Whether a range of ids, both ends included, meets an interval.
 pub fn range_meets(min: i64, max: i64, i: Span) -> bool
     ensures { λ b. ⌜ b ≡ rangeMeets min max i ⌝ }
 {

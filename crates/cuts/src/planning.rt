@@ -1,4 +1,4 @@
-// Planning: boundaries go to a lent slice; total, S and partitions come back as a record.
+// Planning: boundaries go to a lent slice; total, slots and partitions come back as a record.
 ghost use mathlib.Core.Path.{_≡_};
 ghost use Prim.Native.Nat.{_*_, _^_, _<_};
 ghost use Rattle.sums.specs.Cuts.{size};
@@ -10,8 +10,9 @@ use crate::round;
 use crate::search;
 use document::plan::Plan;
 use document::plan::Planning;
+use document::refusal;
+use layout::head;
 use layout_walk::walk;
-use numbers::element;
 use numbers::order;
 
 // Boundaries 1 to n.
@@ -20,50 +21,50 @@ fn fill(
     rows: &[u32],
     blocks: &[u32],
     table: &[u64],
-    s: u64,
+    slots: u64,
     n: u64,
     bounds: &mut [i64],
 )
-    requires { ⌜ Ready (memOf pages rows blocks table) × (n * size s < 2 ^ 64) ⌝ }
+    requires { ⌜ Ready (memOf pages rows blocks table) × (n * size slots < 2 ^ 64) ⌝ }
     ensures { λ _. ⌜ (let x = memOf (pages .entry) (rows .entry) (blocks .entry) (table .entry) in
-        now (bounds .exit) ≡ boundsTo x s (now (bounds .entry)) n) ⌝ }
+        now (bounds .exit) ≡ boundsTo x slots (now (bounds .entry)) n) ⌝ }
 {
-    let slots = order::greatest_of(1, s);
+    let size = order::greatest_of(1, slots);
     let mut k: u64 = 0;
     while k < n {
-        let b = search::boundary(pages, rows, blocks, table, (k + 1) * slots);
+        let b = search::boundary(pages, rows, blocks, table, (k + 1) * size);
         bound::put(bounds, k, b);
         k += 1;
     }
 }
 
-// Cuts a ranked set into partitions of at most s members. Nothing is written before it is known that all of it will be.
+// Cuts a ranked set into partitions of at most so many slots. Nothing is written before it is known that all of it will be.
 pub fn plan(
     pages: &[u64],
     rows: &[u32],
     blocks: &[u32],
     table: &[u64],
-    s: u64,
+    slots: u64,
     bounds: &mut [i64],
 ) -> Planning
     ensures { λ a. ⌜ (let x = memOf (pages .entry) (rows .entry) (blocks .entry) (table .entry) in
-        Plans x s (now (bounds .entry)) a (now (bounds .exit))) ⌝ }
+        Plans x slots (now (bounds .entry)) a (now (bounds .exit))) ⌝ }
 {
     if !walk::walk(pages, rows, blocks, table) {
-        return Planning::Refused(3);
+        return Planning::Refused(refusal::NOT_LAID_OUT);
     }
-    if element::at(table, 6) != 1 {
-        return Planning::Refused(5);
+    if head::mode(table) != head::RANKED {
+        return Planning::Refused(refusal::IS_OPEN);
     }
-    let total = element::at(table, 8);
-    let n = round::parts(total, s);
+    let total = head::total(table);
+    let n = round::parts(total, slots);
     if (bounds.len() as u64) < n - 1 {
-        return Planning::Refused(11);
+        return Planning::Refused(refusal::NO_ROOM);
     }
-    fill(pages, rows, blocks, table, s, n - 1, bounds);
+    fill(pages, rows, blocks, table, slots, n - 1, bounds);
     Planning::Made(Plan {
         total,
-        slots: order::greatest_of(1, s),
+        slots: order::greatest_of(1, slots),
         partitions: n,
     })
 }

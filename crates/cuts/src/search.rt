@@ -9,9 +9,6 @@ use document::answer::Amount;
 use numbers::id;
 use ranked::rank;
 
-// The largest id.
-const MOST_ID: u64 = 9223372036854775807;
-
 // The rank of id n. After the walk none is refused: the second arm is never taken.
 fn rank_of(pages: &[u64], rows: &[u32], blocks: &[u32], table: &[u64], n: u64) -> u64
     requires { ⌜ Ready (memOf pages rows blocks table) × (n < 2 ^ 63) ⌝ }
@@ -51,5 +48,5 @@ pub fn boundary(pages: &[u64], rows: &[u32], blocks: &[u32], table: &[u64], targ
     requires { ⌜ Ready (memOf pages rows blocks table) ⌝ }
     ensures { λ z. ⌜ z ≡ pos (boundaryBy (memOf (pages .entry) (rows .entry) (blocks .entry) (table .entry)) target) ⌝ }
 {
-    id::signed(narrow(pages, rows, blocks, table, target, 0, MOST_ID))
+    id::signed(narrow(pages, rows, blocks, table, target, 0, id::LARGEST))
 }

@@ -99,8 +99,8 @@ typedef struct {
     uint64_t count;
 } bp_ranks_answer;
 
-/* Cuts a ranked set into partitions of at most s members; s of 0 is read as 1. Boundaries 1, 2, .. go to bounds[0], bounds[1], ..; spare elements stay. */
-bp_plan_answer bp_plan(BP_SET, uint64_t s, int64_t *bounds, size_t bounds_n);
+/* Cuts a ranked set into partitions of at most so many slots, a member each; 0 is read as 1. Boundaries 1, 2, .. go to bounds[0], bounds[1], ..; spare elements stay. */
+bp_plan_answer bp_plan(BP_SET, uint64_t slots, int64_t *bounds, size_t bounds_n);
 
 /* Of a plan that bp_plan made (total, slots, partitions) and its boundaries: partition k's interval of ids, its first rank and count. 3, or 12. */
 bp_ids_answer bp_ids(uint64_t total, uint64_t slots, uint64_t partitions, const int64_t *bounds, size_t bounds_n, uint64_t k);

@@ -1,7 +1,5 @@
 // The library for C and Rust: an entry for each call, on numbers and slices. include/brothpillow.h declares them.
-pub mod answer;
 pub mod change;
-pub mod cut;
 pub mod number;
 pub mod partition;
 pub mod read;

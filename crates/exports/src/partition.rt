@@ -4,30 +4,30 @@ ghost use Rattle.layout.specs.Mem.{memOf};
 ghost use Rattle.document.specs.Spans.{inPartition, idsAnswer, ranksAnswer, rangeMeets};
 ghost use Rattle.document.specs.declared.plan.Planning.{Planning};
 ghost use Rattle.cuts.specs.Promise.{Plans};
-ghost use Rattle.exports.specs.Codes.{Coded, planningCode, spannedCode, ranksCode, planIn, spanIn};
-use crate::cut;
-use crate::cut::IdsAnswer;
-use crate::cut::PlanAnswer;
-use crate::cut::RanksAnswer;
+ghost use Rattle.codes.specs.Codes.{Coded, planningCode, spannedCode, ranksCode, planIn, spanIn};
+use codes::cut;
+use codes::cut::IdsAnswer;
+use codes::cut::PlanAnswer;
+use codes::cut::RanksAnswer;
 use cuts::interval;
 use cuts::planning;
 use document::plan::Plan;
 use document::plan::Span;
 
-// Cuts a ranked set into partitions of at most s members: boundaries to the lent slice.
+// Cuts a ranked set into partitions of at most so many slots: boundaries to the lent slice.
 #[no_mangle]
 pub extern "C" fn bp_plan(
     pages: &[u64],
     rows: &[u32],
     blocks: &[u32],
     table: &[u64],
-    s: u64,
+    slots: u64,
     bounds: &mut [i64],
 ) -> PlanAnswer
     ensures { λ r. ⌜ (let x = memOf (pages .entry) (rows .entry) (blocks .entry) (table .entry) in
-        Coded planningCode (λ (a : Planning). Plans x s (now (bounds .entry)) a (now (bounds .exit))) r) ⌝ }
+        Coded planningCode (λ (a : Planning). Plans x slots (now (bounds .entry)) a (now (bounds .exit))) r) ⌝ }
 {
-    cut::of_planning(planning::plan(pages, rows, blocks, table, s, bounds))
+    cut::of_planning(planning::plan(pages, rows, blocks, table, slots, bounds))
 }
 
 // A plan from its numbers.
@@ -81,7 +81,7 @@ pub extern "C" fn bp_in_partition(id: i64, has_high: bool, low: i64, high: i64) 
     interval::in_partition(id, span_of(has_high, low, high))
 }
 
-// Whether a range of ids, both ends included, rangeMeets an interval.
+// Whether a range of ids, both ends included, meets an interval.
 #[no_mangle]
 pub extern "C" fn bp_range_meets(min: i64, max: i64, has_high: bool, low: i64, high: i64) -> bool
     ensures { λ b. ⌜ b ≡ rangeMeets min max (spanIn «has_high» low high) ⌝ }

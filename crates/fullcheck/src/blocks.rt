@@ -65,7 +65,7 @@ pub fn blocks_are(pages: &[u64], blocks: &[u32], table: &[u64], h: Sizes) -> boo
     requires { ⌜ InRange h × (h .p * wide h ≤ length (now pages)) × (h .p * blocksOf h ≤ length (now blocks)) ⌝ }
     ensures { λ b. ⌜ b ≡ allTo (pageBlocks h (now (pages .entry)) (now (blocks .entry)) (rankedAt (now (table .entry)))) (h .p) ⌝ }
 {
-    let ranked = element::at(table, 6) == 1;
+    let ranked = head::mode(table) == head::RANKED;
     let n = h.p;
     let mut ok = true;
     let mut p: u64 = 0;

@@ -13,7 +13,6 @@ use document::sizes::Sizes;
 use layout::entry;
 use layout::head;
 use layout::place::Place;
-use numbers::element;
 use numbers::power;
 
 // Members of page p.
@@ -55,8 +54,8 @@ pub fn ranks_are(pages: &[u64], table: &[u64], h: Sizes) -> bool
     requires { ⌜ WalkShown h (now table) × (h .p * wide h ≤ length (now pages)) ⌝ }
     ensures { λ b. ⌜ b ≡ ranksAre h (now (pages .entry)) (now (table .entry)) ⌝ }
 {
-    let ranked = element::at(table, 6) == 1;
-    let n = h.d + element::at(table, 7);
+    let ranked = head::mode(table) == head::RANKED;
+    let n = h.d + head::over_count(table);
     let mut ok = true;
     let mut sum: u64 = 0;
     let mut e: u64 = 0;
@@ -65,5 +64,5 @@ pub fn ranks_are(pages: &[u64], table: &[u64], h: Sizes) -> bool
         sum += size_if(pages, table, h, ranked, e);
         e += 1;
     }
-    ok & (element::at(table, 8) == sum)
+    ok & (head::total(table) == sum)
 }

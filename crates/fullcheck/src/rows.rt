@@ -85,7 +85,7 @@ pub fn lists_are(rows: &[u32], table: &[u64], h: Sizes) -> bool
     requires { ⌜ WalkShown h (now table) × (h .r * h .m ≤ length (now rows)) ⌝ }
     ensures { λ b. ⌜ b ≡ allTo (rowIs h (now (rows .entry)) (now (table .entry))) (entries h (now (table .entry))) ⌝ }
 {
-    let n = h.d + element::at(table, 7);
+    let n = h.d + head::over_count(table);
     let mut ok = true;
     let mut e: u64 = 0;
     while e < n {

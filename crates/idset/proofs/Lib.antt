@@ -1,5 +1,4 @@
 pub mod Shifts
-pub mod Spots
 pub mod Gets
 pub mod Runs
 pub mod Totals

@@ -1,59 +1,24 @@
--- The entries one by one: what lets them be read, and the word, the part and the members of each. Assumes nothing.
+-- The members of the entries one by one. Assumes nothing.
 use mathlib.Core.Path.{_≡_, refl, sym, _∙_, ap, ap₂}
 use mathlib.Core.List.{List}
-use mathlib.Core.Bool.{Bool, true, false, not, _&&_}
-use Prim.Native.Nat.{ℕ, zero, suc, _+_, _-_, _*_, _^_, _≤_, _<_}
+use mathlib.Core.Bool.{Bool, not}
+use Prim.Native.Nat.{ℕ, zero, suc, _+_, _-_, _*_, _≤_}
 use native.Mathlib.Omega.{arith}
-use lib.Dec.{leb, ltb, eqb}
+use lib.Dec.{ltb, eqb}
 use lib.ListN.{length, getD, take, drop}
-use borrow.Author.Tests.{leb-true, lt-ltb, eq-eqb, ne-eqb}
-use Rattle.sums.proofs.Rules.{both}
+use borrow.Author.Tests.{lt-ltb, ne-eqb}
 use Rattle.dense.specs.Bits.{bitsTo, anyIn}
 use Rattle.dense.proofs.Counts.{bits-zero, bits-le}
 use Rattle.numbers.proofs.Powers.{powers}
 use Rattle.layout.specs.Mem.{Mem}
-use Rattle.layout.specs.Sizes.{overCount}
-use Rattle.layout.specs.Short.{entriesIn}
-use Rattle.layout.proofs.Finds.{entries-are-in}
+use Rattle.layout.specs.Sizes.{head}
 use Rattle.layout.specs.declared.find.Spot.{Spot}
 use Rattle.layout.specs.declared.find.Spot.the-variants.{Nowhere, Row, Page, Bad}
-use Rattle.calls.specs.Reading.{shiftOk, spotBy}
-use Rattle.calls.specs.Counts.{entriesOk, wordBy, isGood, sizeIn, goodAt, sizeBy}
-use Rattle.idset.proofs.Spots.{InRows, InPages, spot-row, spot-page, span, length-part}
-
--- ---- sizes that let every entry be read
-
-pub record Run (t : List ℕ) : Type 0 where
-  pub low : 9 ≤ getD t 0 0
-  pub high : getD t 0 0 ≤ 25
-  pub direct : getD t 2 0 ≤ 262144
-  pub over : overCount t ≤ 65536
-
-pub run : (t : List ℕ) → entriesOk t ≡ true → Run t
-run t h =
-    let a = both (shiftOk t) (entriesIn t (getD t 2 0)) h in
-    let d = both (leb 9 (getD t 0 0)) (leb (getD t 0 0) 25) (a .0) in
-    let k = entries-are-in t (getD t 2 0) (a .1) in
-    record {
-      low = leb-true 9 (getD t 0 0) (d .0);
-      high = leb-true (getD t 0 0) 25 (d .1);
-      direct = k .direct;
-      over = k .over;
-    }
-
-pub number-small : (t : List ℕ) (d n : ℕ) → Run t → d ≡ getD t 2 0 → n ≡ overCount t → (d ≤ 262144) × (n ≤ 65536)
-number-small t d n r e f = let l = r .direct in let h = r .over in (omega (arith, e), omega (arith, f))
-
--- the test, on what was read
-pub entries-are : (t : List ℕ) (s d : ℕ) (b : Bool) → s ≡ getD t 0 0 → d ≡ getD t 2 0 → b ≡ entriesIn t d → (leb 9 s && leb s 25 && b) ≡ entriesOk t
-entries-are t s d b es ed eb = ap₂ (λ (i : ℕ) (c : Bool). leb 9 i && leb i 25 && c) es (eb ∙ ap (entriesIn t) ed)
-
--- ---- the word and the part of entry e
-
-pub spot-entry : (x : Mem) (e w : ℕ) (q : Spot) → w ≡ wordBy x e → q ≡ spotBy x w → q ≡ spotBy x (wordBy x e)
-spot-entry x e w q ew h = h ∙ ap (spotBy x) ew
-
--- ---- members of entry e
+use Rattle.calls.specs.Reading.{spotBy}
+use Rattle.calls.specs.Counts.{wordBy, isGood, sizeIn, goodAt, sizeBy}
+use Rattle.entries.proofs.Runs.{Run}
+use Rattle.layout.proofs.Lent.{span, length-lent}
+use Rattle.calls.proofs.Spots.{InPages, spot-row, spot-page}
 
 zero-not : (k : ℕ) → not (ltb 0 k) ≡ eqb k 0
 zero-not zero = refl
@@ -80,12 +45,12 @@ module _ (x : Mem) (e : ℕ) where
     none-is = ap (λ (k : ℕ). eqb k 0) size-is
 
   module _ (a n : ℕ) (f : Page a n ≡ spotBy x (wordBy x e)) where
-    pub page-here : InPages (getD (x .table) 0 0) (length (x .pages)) a n
+    pub page-here : InPages (head x .s) (length (x .pages)) a n
     page-here = spot-page x (wordBy x e) a n (sym f)
 
     pub page-size : (k : ℕ) → k ≡ bitsTo (take (a + n - a) (drop a (x .pages))) (64 * length (take (a + n - a) (drop a (x .pages)))) → k ≡ sizeBy x e
     page-size k g =
-        g ∙ (ap₂ (λ (i j : ℕ). bitsTo (take i (drop a (x .pages))) (64 * j)) (span a n) (length-part (x .pages) a n (page-here .inside)) ∙ size-is (Page a n) f)
+        g ∙ (ap₂ (λ (i j : ℕ). bitsTo (take i (drop a (x .pages))) (64 * j)) (span a n) (length-lent (x .pages) a n (page-here .inside)) ∙ size-is (Page a n) f)
 
     pub page-none : (b : Bool) → 1 ≤ n → b ≡ anyIn (take (a + n - a) (drop a (x .pages))) 0 (64 * n - 1) → not b ≡ eqb (sizeBy x e) 0
     page-none b h g =
@@ -94,7 +59,7 @@ module _ (x : Mem) (e : ℕ) where
 
     pub page-small : Run (x .table) → (8 ≤ n) × (n ≤ 524288)
     page-small r =
-        let p = powers (getD (x .table) 0 0) (r .low) (r .high) in
+        let p = powers (head x .s) (r .low) (r .high) in
         let w = page-here .wide in
         (omega (arith, p .some-words), omega (arith, p .most-words))
 

@@ -18,7 +18,8 @@ use Rattle.layout.specs.Mem.{Mem}
 use Rattle.document.specs.declared.answer.Truth.the-variants as truth
 use Rattle.document.specs.declared.answer.Amount.the-variants as amount
 use Rattle.calls.specs.Counts.{entriesOk, entriesOf, wordBy, goodAt, sizeBy, usedAt, partsOk, lenBy, isEmptyBy, hasAnyBy, chunksBy}
-use Rattle.idset.proofs.Runs.{Run, size-most}
+use Rattle.entries.proofs.Runs.{Run}
+use Rattle.idset.proofs.Runs.{size-most}
 
 module _ (x : Mem) where
   -- ---- refused

@@ -2,9 +2,10 @@
 ghost use Rattle.layout.specs.Mem.{memOf};
 ghost use Rattle.document.specs.Calls.{len, is-empty, has-any, chunk-count, whether, many};
 ghost use Rattle.contracts.specs.Does.{Answers};
-use crate::entries;
+use crate::parts;
 use document::answer::Amount;
 use document::answer::Truth;
+use document::refusal;
 use layout::entry;
 
 // The members.
@@ -12,14 +13,14 @@ pub fn len(pages: &[u64], rows: &[u32], blocks: &[u32], table: &[u64]) -> Amount
     ensures { λ r. ⌜ (let x = memOf (pages .entry) (rows .entry) (blocks .entry) (table .entry) in Answers x len (many r)) ⌝ }
 {
     if !entries::are(table) {
-        return Amount::Refused(3);
+        return Amount::Refused(refusal::NOT_LAID_OUT);
     }
     let n = entries::number(table);
     let mut good = true;
     let mut sum: u64 = 0;
     let mut e: u64 = 0;
     while e < n {
-        let p = entries::part_at(pages, rows, blocks, table, e);
+        let p = parts::part_at(pages, rows, blocks, table, e);
         good = good & p.good;
         sum += p.size;
         e += 1;
@@ -27,7 +28,7 @@ pub fn len(pages: &[u64], rows: &[u32], blocks: &[u32], table: &[u64]) -> Amount
     if good {
         return Amount::Of(sum);
     }
-    Amount::Refused(3)
+    Amount::Refused(refusal::NOT_LAID_OUT)
 }
 
 // Whether there is no member.
@@ -35,14 +36,14 @@ pub fn is_empty(pages: &[u64], rows: &[u32], blocks: &[u32], table: &[u64]) -> T
     ensures { λ r. ⌜ (let x = memOf (pages .entry) (rows .entry) (blocks .entry) (table .entry) in Answers x is-empty (whether r)) ⌝ }
 {
     if !entries::are(table) {
-        return Truth::Refused(3);
+        return Truth::Refused(refusal::NOT_LAID_OUT);
     }
     let n = entries::number(table);
     let mut good = true;
     let mut none = true;
     let mut e: u64 = 0;
     while e < n {
-        let p = entries::vacancy_at(pages, rows, blocks, table, e);
+        let p = parts::vacancy_at(pages, rows, blocks, table, e);
         good = good & p.good;
         none = none & p.none;
         e += 1;
@@ -50,7 +51,7 @@ pub fn is_empty(pages: &[u64], rows: &[u32], blocks: &[u32], table: &[u64]) -> T
     if good {
         return Truth::Is(none);
     }
-    Truth::Refused(3)
+    Truth::Refused(refusal::NOT_LAID_OUT)
 }
 
 // Whether there is a chunk, be it empty.
@@ -58,7 +59,7 @@ pub fn has_any(pages: &[u64], rows: &[u32], blocks: &[u32], table: &[u64]) -> Tr
     ensures { λ r. ⌜ (let x = memOf (pages .entry) (rows .entry) (blocks .entry) (table .entry) in Answers x has-any (whether r)) ⌝ }
 {
     if !entries::are(table) {
-        return Truth::Refused(3);
+        return Truth::Refused(refusal::NOT_LAID_OUT);
     }
     let n = entries::number(table);
     let mut e: u64 = 0;
@@ -76,7 +77,7 @@ pub fn allocated_chunk_count(pages: &[u64], rows: &[u32], blocks: &[u32], table:
     ensures { λ r. ⌜ (let x = memOf (pages .entry) (rows .entry) (blocks .entry) (table .entry) in Answers x chunk-count (many r)) ⌝ }
 {
     if !entries::are(table) {
-        return Amount::Refused(3);
+        return Amount::Refused(refusal::NOT_LAID_OUT);
     }
     let n = entries::number(table);
     let mut sum: u64 = 0;

@@ -1,6 +1,6 @@
 // The calls on a set: set-up, membership, counts.
 mod chunk;
 pub mod count;
-mod entries;
+mod parts;
 pub mod read;
 pub mod setup;

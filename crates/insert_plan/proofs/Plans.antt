@@ -19,7 +19,7 @@ use Rattle.document.specs.declared.sizes.Sizes.{Sizes}
 use Rattle.calls.specs.Insert.{firstFree, freeRow, freePage, startChunk, turnDense, intoRow}
 use Rattle.calls.specs.declared.plan.Plan.{Plan}
 use Rattle.calls.specs.declared.plan.Plan.the-variants.{Refuse, Known, Enter, Begin, Turn}
-use Rattle.steps.proofs.Lent.{span}
+use Rattle.layout.proofs.Lent.{span}
 
 -- ---- where the header is looked at
 

@@ -8,10 +8,10 @@ ghost use Rattle.layout.specs.Places.{rowPart};
 ghost use Rattle.calls.specs.Insert.{startChunk, turnDense, intoRow};
 ghost use Rattle.insert_plan.specs.Ready.{RowReady};
 use calls::plan::Plan;
+use document::refusal;
 use layout::head;
 use layout_walk::owners;
 use layout_walk::walk;
-use numbers::element;
 use numbers::power;
 use sparse::Place;
 
@@ -21,17 +21,17 @@ pub fn begin(pages: &[u64], rows: &[u32], blocks: &[u32], table: &[u64], c: u64)
 {
     let h = head::read(table);
     if !walk::head_is(h, pages, rows, blocks, table) {
-        return Plan::Refuse(3);
+        return Plan::Refuse(refusal::NOT_LAID_OUT);
     }
-    let n = element::at(table, 7);
+    let n = head::over_count(table);
     if (h.d <= c) & (h.v <= n) {
-        return Plan::Refuse(6);
+        return Plan::Refuse(refusal::OVERFLOW_FULL);
     }
     let r = owners::free_row(table, h);
     if r < h.r {
         return Plan::Begin(r);
     }
-    Plan::Refuse(7)
+    Plan::Refuse(refusal::ROWS_FULL)
 }
 
 // A full row r of l members gets one more: 8 where no page is free.
@@ -40,16 +40,16 @@ pub fn turn(pages: &[u64], rows: &[u32], blocks: &[u32], table: &[u64], r: u64, 
 {
     let h = head::read(table);
     if !walk::head_is(h, pages, rows, blocks, table) {
-        return Plan::Refuse(3);
+        return Plan::Refuse(refusal::NOT_LAID_OUT);
     }
     if h.r <= r {
-        return Plan::Refuse(3);
+        return Plan::Refuse(refusal::NOT_LAID_OUT);
     }
     let p = owners::free_page(table, h);
     if p < h.p {
         return Plan::Turn(r, l, p);
     }
-    Plan::Refuse(8)
+    Plan::Refuse(refusal::PAGES_FULL)
 }
 
 // Into row r of l members. A member is never a promotion.
@@ -66,7 +66,7 @@ pub fn row(
     ensures { λ q. ⌜ (let x = memOf (pages .entry) (rows .entry) (blocks .entry) (table .entry) in
         q ≡ intoRow x r l (spotIn (rowPart (head x) (x .rows) r) l o)) ⌝ }
 {
-    let m = element::at(table, 1);
+    let m = head::row_size(table);
     let n = m as usize;
     let a = power::times(r, m) as usize;
     let e = a + n;

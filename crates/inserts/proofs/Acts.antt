@@ -15,7 +15,8 @@ use Rattle.layout.specs.declared.place.Place.the-variants.{Sparse, Dense}
 use Rattle.document.specs.declared.answer.Truth.the-variants as truth
 use Rattle.layout.specs.Writes.{putWord, putRowOwner, putPageOwner, putRow, putPage}
 use Rattle.steps.specs.Steps.{rowed, paged}
-use Rattle.steps.proofs.Lent.{span, put-lent}
+use Rattle.layout.proofs.Lent.{span}
+use Rattle.steps.proofs.Lent.{put-lent}
 use Rattle.calls.specs.Insert.{acted, Told, told}
 use Rattle.calls.specs.declared.plan.Plan.{Plan}
 use Rattle.calls.specs.declared.plan.Plan.the-variants.{Mark, Enter, Begin, Turn}

@@ -1,13 +1,14 @@
 // An offset of any chunk: into the part that the chunk's word names. Only a new chunk and a row need a plan.
 ghost use mathlib.Core.Path.{_≡_};
 ghost use Prim.Native.Nat.{ℕ, _^_, _≤_, _<_};
-ghost use lib.ListN.{getD};
 ghost use Rattle.layout.specs.Mem.{memOf};
+ghost use Rattle.layout.specs.Sizes.{headerAt};
 ghost use Rattle.layout.specs.Places.{decoded};
 ghost use Rattle.layout.specs.declared.place.Place.the-variants.{Sparse};
 ghost use Rattle.calls.specs.Insert.{insertPlan, preparedPlan, acted, told};
 use crate::write;
 use document::answer::Truth;
+use document::refusal;
 use layout::find;
 use layout::find::Spot;
 use layout::find::Word;
@@ -35,15 +36,15 @@ pub fn put(
     c: u64,
     o: u64,
 ) -> Truth
-    requires { ⌜ (9 ≤ s) × (s ≤ 25) × (s ≡ getD (now table) 0 0) × (c < 2 ^ 62) × (o < 2 ^ s) ⌝ }
+    requires { ⌜ (9 ≤ s) × (s ≤ 25) × (s ≡ headerAt (now table) .s) × (c < 2 ^ 62) × (o < 2 ^ s) ⌝ }
     ensures { λ r. ⌜ (let x = memOf (pages .entry) (rows .entry) (blocks .entry) (table .entry) in
         let y = memOf (pages .exit) (rows .exit) (blocks .entry) (table .exit) in
         told r y ≡ acted x c o (insertPlan x c o)) ⌝ }
 {
     let Word::Is(w) = find::word_of(table, c) else {
-        return Truth::Refused(3);
+        return Truth::Refused(refusal::NOT_LAID_OUT);
     };
-    match find::spot_of(table, pages.len() as u64, rows.len() as u64, w) {
+    match find::spot_of(pages, rows, table, w) {
         Spot::Nowhere => {
             let q = insert_plan::begin(pages, rows, blocks, table, c);
             write::act(pages, rows, table, c, o, q)
@@ -53,7 +54,7 @@ pub fn put(
             write::act(pages, rows, table, c, o, q)
         }
         Spot::Page(a, n) => Truth::Is(write::mark(pages, a, n, o)),
-        Spot::Bad => Truth::Refused(3),
+        Spot::Bad => Truth::Refused(refusal::NOT_LAID_OUT),
     }
 }
 
@@ -67,18 +68,18 @@ pub fn put_prepared(
     c: u64,
     o: u64,
 ) -> Truth
-    requires { ⌜ (9 ≤ s) × (s ≤ 25) × (s ≡ getD (now table) 0 0) × (c < 2 ^ 62) × (o < 2 ^ s) ⌝ }
+    requires { ⌜ (9 ≤ s) × (s ≤ 25) × (s ≡ headerAt (now table) .s) × (c < 2 ^ 62) × (o < 2 ^ s) ⌝ }
     ensures { λ r. ⌜ (let x = memOf (pages .entry) (rows .entry) (blocks .entry) (table .entry) in
         let y = memOf (pages .exit) (rows .entry) (blocks .entry) (table .entry) in
         told r y ≡ acted x c o (preparedPlan x c o)) ⌝ }
 {
     let Word::Is(w) = find::word_of(table, c) else {
-        return Truth::Refused(3);
+        return Truth::Refused(refusal::NOT_LAID_OUT);
     };
-    match find::spot_of(table, pages.len() as u64, rows.len() as u64, w) {
-        Spot::Nowhere => Truth::Refused(9),
-        Spot::Row(_, _, _) => Truth::Refused(9),
+    match find::spot_of(pages, rows, table, w) {
+        Spot::Nowhere => Truth::Refused(refusal::NOT_PREPARED),
+        Spot::Row(_, _, _) => Truth::Refused(refusal::NOT_PREPARED),
         Spot::Page(a, n) => Truth::Is(write::mark(pages, a, n, o)),
-        Spot::Bad => Truth::Refused(3),
+        Spot::Bad => Truth::Refused(refusal::NOT_LAID_OUT),
     }
 }

@@ -1,16 +1,16 @@
 // The short way of both inserts, for the chunk that takes most ids: dense, with a direct entry, in an open set. Small enough to be compiled into each call.
 ghost use mathlib.Core.Path.{_≡_};
 ghost use Prim.Native.Nat.{_^_, _≤_, _<_};
-ghost use lib.ListN.{getD};
 ghost use Rattle.layout.specs.Mem.{memOf};
+ghost use Rattle.layout.specs.Sizes.{headerAt};
 ghost use Rattle.inserts.specs.Ways.{Into, Short};
 use crate::gate;
 use crate::write;
 use layout::find;
 use layout::find::Spot;
 use layout::find::Word;
+use layout::head;
 use numbers::Split;
-use numbers::element;
 use numbers::id as ids;
 
 // The call is done, and this is its answer; or nothing is.
@@ -29,18 +29,18 @@ pub fn into(
     c: u64,
     o: u64,
 ) -> Direct
-    requires { ⌜ (9 ≤ s) × (s ≤ 25) × (s ≡ getD (now table) 0 0) × (c < 2 ^ 62) × (o < 2 ^ s) ⌝ }
+    requires { ⌜ (9 ≤ s) × (s ≤ 25) × (s ≡ headerAt (now table) .s) × (c < 2 ^ 62) × (o < 2 ^ s) ⌝ }
     ensures { λ r. ⌜ (let x = memOf (pages .entry) (rows .entry) (blocks .entry) (table .entry) in
         let y = memOf (pages .exit) (rows .entry) (blocks .entry) (table .entry) in
         Into x c o r y) ⌝ }
 {
-    if element::at(table, 2) <= c {
+    if head::direct(table) <= c {
         return Direct::Elsewhere;
     }
     let Word::Is(w) = find::direct_word(table, c) else {
         return Direct::Elsewhere;
     };
-    let Spot::Page(a, n) = find::spot_of(table, pages.len() as u64, rows.len() as u64, w) else {
+    let Spot::Page(a, n) = find::spot_of(pages, rows, table, w) else {
         return Direct::Elsewhere;
     };
     Direct::Is(write::mark(pages, a, n, o))
@@ -58,7 +58,7 @@ pub fn put(pages: &mut [u64], rows: &[u32], blocks: &[u32], table: &[u64], id: i
     if gate::refusal(table) != 0 {
         return Direct::Elsewhere;
     }
-    let s = element::at(table, 0);
+    let s = head::shift(table);
     let Split::At(c, o) = ids::split(id, s) else {
         return Direct::Elsewhere;
     };

@@ -11,8 +11,9 @@ use crate::direct::Direct;
 use crate::gate;
 use document::answer::Outcome;
 use document::answer::Truth;
+use document::refusal;
+use layout::head;
 use numbers::Split;
-use numbers::element;
 use numbers::id as ids;
 
 // The whole way: `set_if_new` into any chunk.
@@ -31,7 +32,7 @@ fn anywhere(
     if n != 0 {
         return Truth::Refused(n);
     }
-    let s = element::at(table, 0);
+    let s = head::shift(table);
     let Split::At(c, o) = ids::split(id, s) else {
         return Truth::Is(false);
     };
@@ -94,9 +95,9 @@ fn prepared(pages: &mut [u64], rows: &[u32], blocks: &[u32], table: &[u64], id: 
     if n != 0 {
         return Truth::Refused(n);
     }
-    let s = element::at(table, 0);
+    let s = head::shift(table);
     let Split::At(c, o) = ids::split(id, s) else {
-        return Truth::Refused(9);
+        return Truth::Refused(refusal::NOT_PREPARED);
     };
     chunk::put_prepared(pages, rows, blocks, table, s, c, o)
 }

@@ -20,7 +20,6 @@ use document::sizes::Sizes;
 use layout::head;
 use layout::place;
 use layout_writes::write;
-use numbers::element;
 use numbers::power;
 use steps::turn;
 
@@ -52,7 +51,7 @@ pub fn enter(rows: &mut [u32], table: &mut [u64], c: u64, o: u64, r: u64, l: usi
         (now (rows .exit) ≡ putRow h (now (rows .entry)) r (insertedAt (rowPart h (now (rows .entry)) r) l k o))
         × (now (table .exit) ≡ putWord h (now (table .entry)) c (encoded (Sparse r (l + 1))))) ⌝ }
 {
-    let m = element::at(table, 1);
+    let m = head::row_size(table);
     let a = power::times(r, m) as usize;
     let e = a + m as usize;
     sparse::insert_at(&mut rows[a..e], l, k, o as u32);

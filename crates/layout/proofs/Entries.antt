@@ -54,10 +54,16 @@ module _ (h : Sizes) (t : List ℕ) (e : ℕ) where
     unfolding prefixAt
     prefix-past = ap (λ (i : ℕ). getD t i 0) (place-past h e l)
 
--- the word of entry e, where D was read
+-- the word and the chunk id of entry e, where D was read
 module _ (t : List ℕ) (e d : ℕ) (ed : d ≡ getD t 2 0) where
   pub word-direct : e < d → getD t (16 + 2 * e) 0 ≡ wordAt (headerAt t) t e
   word-direct l = word-below (headerAt t) t e (omega (arith, ed))
 
   pub word-over : d ≤ e → getD t (16 + 2 * d + 3 * (e - d) + 1) 0 ≡ wordAt (headerAt t) t e
   word-over l = ap (λ (k : ℕ). getD t (16 + 2 * k + 3 * (e - k) + 1) 0) ed ∙ word-past (headerAt t) t e (omega (arith, ed))
+
+  pub chunk-direct : e < d → e ≡ chunkAt (headerAt t) t e
+  chunk-direct l = chunk-below (headerAt t) t e (omega (arith, ed))
+
+  pub chunk-over : d ≤ e → getD t (16 + 2 * d + 3 * (e - d)) 0 ≡ chunkAt (headerAt t) t e
+  chunk-over l = ap (λ (k : ℕ). getD t (16 + 2 * k + 3 * (e - k)) 0) ed ∙ chunk-past (headerAt t) t e (omega (arith, ed))

@@ -6,7 +6,7 @@ use Prim.Native.Nat.{ℕ, zero, suc, _+_, _-_, _*_, _/_, _≤_, _<_}
 use native.Mathlib.Omega.{arith}
 use lib.ListN.{length, getD}
 use lib.Dec.{leb, ltb, eqb}
-use borrow.Author.Tests.{lt-ltb, le-ltb, leb-true, eq-eqb, ne-eqb, not-true, not-false}
+use borrow.Author.Tests.{lt-ltb, le-ltb, le-leb, lt-leb, leb-true, eq-eqb, ne-eqb, not-true, not-false}
 use Rattle.sums.proofs.Rules.{both}
 use Rattle.layout.specs.Sizes.{directAt, overStart, headerAt, overCount}
 use Rattle.layout.specs.Short.{lowerKey, keyAt, overPlace, overWord, entriesIn, directWord, overflowWord, wordIn}
@@ -80,10 +80,54 @@ module _ (t : List ℕ) (a n c : ℕ) where
 
 -- ---- whether the entries lie inside the table
 
+no-and : (a b : Bool) → a ≡ false → (a && b) ≡ false
+no-and a b e = ap (λ (x : Bool). x && b) e
+
+and-no : (a b : Bool) → b ≡ false → (a && b) ≡ false
+and-no true b e = e
+and-no false b e = refl
+
 module _ (t : List ℕ) (d n : ℕ) (e : n ≡ overCount t) where
+  abbrev direct-ok : Bool
+  direct-ok = leb d 262144
+
+  abbrev over-ok : Bool
+  over-ok = leb (overCount t) 65536
+
+  abbrev long-ok : Bool
+  long-ok = leb (overStart d + 3 * overCount t) (length t)
+
+  abbrev fits-ok : Bool
+  fits-ok = leb (overCount t) (headerAt t .v)
+
+  pub entries-direct : 262144 < d → entriesIn t d ≡ false
+  entries-direct l = no-and (direct-ok && over-ok && long-ok) fits-ok (no-and (direct-ok && over-ok) long-ok (no-and direct-ok over-ok (lt-leb d 262144 l)))
+
+  pub entries-over : 65536 < n → entriesIn t d ≡ false
+  entries-over l =
+      no-and (direct-ok && over-ok && long-ok) fits-ok
+      (no-and (direct-ok && over-ok) long-ok (and-no direct-ok over-ok (lt-leb (overCount t) 65536 (omega (arith, e)))))
+
+  pub entries-long : length t < overStart d + 3 * n → entriesIn t d ≡ false
+  entries-long l =
+      no-and (direct-ok && over-ok && long-ok) fits-ok
+      (and-no (direct-ok && over-ok) long-ok (lt-leb (overStart d + 3 * overCount t) (length t) (omega (arith, e))))
+
+  module _ (v : ℕ) (f : v ≡ headerAt t .v) where
+    pub entries-fit : v < n → entriesIn t d ≡ false
+    entries-fit l = and-no (direct-ok && over-ok && long-ok) fits-ok (lt-leb (overCount t) (headerAt t .v) (omega (arith, e, f)))
+
+    pub entries-all : d ≤ 262144 → n ≤ 65536 → overStart d + 3 * n ≤ length t → n ≤ v → entriesIn t d ≡ true
+    entries-all k l m g =
+        ap₂ _&&_
+        (ap₂ _&&_
+        (ap₂ _&&_ (le-leb d 262144 k) (le-leb (overCount t) 65536 (omega (arith, e))))
+        (le-leb (overStart d + 3 * overCount t) (length t) (omega (arith, e))))
+        (le-leb (overCount t) (headerAt t .v) (omega (arith, e, f)))
+
   -- the test as one line
   last-two : Bool → Bool
-  last-two b = b && leb (overStart d + 3 * overCount t) (length t) && leb (overCount t) (headerAt t .v)
+  last-two b = b && long-ok && fits-ok
 
   small-is : (b : Bool) → (leb d 262144 && leb n 65536) ≡ b → last-two b ≡ entriesIn t d
   unfolding last-two

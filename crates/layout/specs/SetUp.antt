@@ -6,6 +6,7 @@ use lib.ListN.{drop, replicate}
 use Rattle.layout.specs.Mem.{Mem, mem}
 use Rattle.layout.specs.Sizes.{wide, blocksOf, tableSize}
 use Rattle.layout.specs.Tests.{inRange, roomIn}
+use Rattle.document.specs.Refusals.{outside-sizes, too-short}
 use Rattle.document.specs.declared.sizes.Sizes.{Sizes}
 use Rattle.document.specs.declared.answer.Outcome.{Outcome}
 use Rattle.document.specs.declared.answer.Outcome.the-variants.{Done, Refused}
@@ -33,4 +34,4 @@ fresh h x = mem (zeroed (h .p * wide h) (x .pages)) (zeroed (h .r * h .m) (x .ro
 
 -- refusal 1, then 2
 unfoldable pub setUpBy : Sizes → Mem → Did
-setUpBy h x = cond (inRange h) (cond (roomIn h x) (did Done (fresh h x)) (did (Refused 2) x)) (did (Refused 1) x)
+setUpBy h x = cond (inRange h) (cond (roomIn h x) (did Done (fresh h x)) (did (Refused too-short) x)) (did (Refused outside-sizes) x)

@@ -88,3 +88,15 @@ pub fn page_owner(table: &[u64], h: Sizes, p: u64) -> u64
 {
     element::at(table, 16 + 2 * h.d + 3 * h.v + h.r + p)
 }
+
+// The chunk id of entry e by header word 2 alone.
+pub fn chunk_by(table: &[u64], e: u64) -> u64
+    requires { ⌜ (getD (now table) 2 0 ≤ 262144) × (e ≤ 327680) ⌝ }
+    ensures { λ c. ⌜ c ≡ chunkAt (headerAt (now (table .entry))) (now (table .entry)) e ⌝ }
+{
+    let d = element::at(table, 2);
+    if e < d {
+        return e;
+    }
+    element::at(table, 16 + 2 * d + 3 * (e - d))
+}

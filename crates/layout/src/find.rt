@@ -82,11 +82,20 @@ pub fn entries_in(table: &[u64], d: u64) -> bool
 pub fn overflow_word(table: &[u64], d: u64, c: u64) -> Word
     ensures { λ w. ⌜ w ≡ overflowWord (now (table .entry)) d c ⌝ }
 {
-    if !entries_in(table, d) {
+    let n = head::over_count(table);
+    if 262144 < d {
         return Word::Bad;
     }
-    let n = head::over_count(table);
+    if 65536 < n {
+        return Word::Bad;
+    }
     let a = 16 + 2 * d;
+    if (table.len() as u64) < a + 3 * n {
+        return Word::Bad;
+    }
+    if head::overflow(table) < n {
+        return Word::Bad;
+    }
     Word::Is(over_word(table, a, n, c, over_place(table, a, n, c)))
 }
 

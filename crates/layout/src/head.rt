@@ -58,6 +58,7 @@ pub fn pages(table: &[u64]) -> u64
     element::at(table, 5)
 }
 
+// Open or ranked.
 pub fn mode(table: &[u64]) -> u64
     ensures { λ n. ⌜ n ≡ modeAt (now (table .entry)) ⌝ }
 {
@@ -78,12 +79,14 @@ pub fn total(table: &[u64]) -> u64
     element::at(table, 8)
 }
 
+// The set is open or ranked from now on.
 pub fn put_mode(table: &mut [u64], n: u64)
     ensures { λ _. ⌜ now (table .exit) ≡ putMode (now (table .entry)) n ⌝ }
 {
     element::put(table, 6, n);
 }
 
+// The members, 0 where the set is open.
 pub fn put_total(table: &mut [u64], n: u64)
     ensures { λ _. ⌜ now (table .exit) ≡ putTotal (now (table .entry)) n ⌝ }
 {

@@ -28,11 +28,20 @@ pub fn over_seat(table: &[u64], a: u64, n: u64, c: u64, k: u64) -> Seat
 pub fn overflow_seat(table: &[u64], d: u64, c: u64) -> Seat
     ensures { λ q. ⌜ q ≡ overflowSeat (now (table .entry)) d c ⌝ }
 {
-    if !find::entries_in(table, d) {
+    let n = head::over_count(table);
+    if 262144 < d {
         return Seat::Bad;
     }
-    let n = head::over_count(table);
+    if 65536 < n {
+        return Seat::Bad;
+    }
     let a = 16 + 2 * d;
+    if (table.len() as u64) < a + 3 * n {
+        return Seat::Bad;
+    }
+    if head::overflow(table) < n {
+        return Seat::Bad;
+    }
     over_seat(table, a, n, c, find::over_place(table, a, n, c))
 }
 

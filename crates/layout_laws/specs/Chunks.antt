@@ -1,7 +1,7 @@
 -- What is said of one chunk, by its place: its members, its kind as a yes or no.
-use Prim.Native.Nat.{ℕ, _+_, _*_}
+use Prim.Native.Nat.{ℕ, _+_}
 use mathlib.Core.List.{List}
-use mathlib.Core.Bool.{Bool, true, false, cond}
+use mathlib.Core.Bool.{Bool, false, cond}
 use lib.ListN.{take, drop}
 use lib.Dec.{ltb}
 use Rattle.sums.specs.Ids.{count}
@@ -9,10 +9,9 @@ use Rattle.sparse.specs.Row.{rowOf, member, belowOf}
 use Rattle.dense.specs.Bits.{isSet, bitsTo}
 use Rattle.layout.specs.Mem.{Mem}
 use Rattle.document.specs.Sizes.{top}
-use Rattle.layout.specs.Sizes.{head, overCount, totalAt}
+use Rattle.layout.specs.Sizes.{overStart, head, overCount, totalAt}
 use Rattle.layout.specs.Places.{rowPart, pagePart}
 use Rattle.layout.specs.Entries.{entries, prefixAt, placeOf}
-use Rattle.document.specs.State.{Kind, absent, sparse, dense}
 use Rattle.layout.specs.Meaning.{offsets}
 use Rattle.layout.specs.Short.{overPlace}
 use Rattle.document.specs.declared.sizes.Sizes.{Sizes}
@@ -36,7 +35,7 @@ spotBelow x Bad o = 0
 
 -- the entry of the first chunk that is not below c
 unfoldable pub entryFrom : Sizes → List ℕ → ℕ → ℕ
-entryFrom h t c = cond (ltb c (h .d)) c (h .d + overPlace t (16 + 2 * h .d) (overCount t) c)
+entryFrom h t c = cond (ltb c (h .d)) c (h .d + overPlace t (overStart (h .d)) (overCount t) c)
 
 -- what a ranked set says of chunk c's first id: the prefix of that entry, or past the last one the total
 unfoldable pub firstRank : Mem → ℕ → ℕ

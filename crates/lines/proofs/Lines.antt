@@ -9,12 +9,17 @@ use lib.IntN.{ℤ, pos, negℤ}
 use lib.ListN.{length}
 use Rattle.sums.proofs.Rules.{both}
 use borrow.Author.Tests.{leb-true, ltb-true, ltb-false, eqb-true, le-leb, lt-leb, lt-ltb, le-ltb}
-use Rattle.lines.specs.Line.{isDigit, allDigits, valueFrom, isNil, sizeLine, positive, negative, idLine}
-use Rattle.lines.specs.Reader.{digitOn, next, readFrom, lineOf}
+use Rattle.lines.specs.Line.{isDigit, allDigits, valueFrom, sizeLine, positive, negative, idLine}
+use Rattle.lines.specs.Reader.{digitOn, next, readFrom, lineOf, emptyIn, sizeIn, within, signedBy, idIn}
+use Rattle.lines.specs.declared.Id.the-variants as id
 use Rattle.lines.specs.declared.Line.{Line}
 use Rattle.lines.specs.declared.Line.the-variants.{Empty, Digits, Bad}
-use Rattle.lines.specs.declared.Said.{Said}
-use Rattle.lines.specs.declared.Said.the-variants as said
+use Rattle.lines.specs.declared.Number.the-variants as number
+
+-- ---- by what is kept
+
+pub by-kept : {A : Type 0} (f : Line → A) {l k : Line} {r : A} → l ≡ k → r ≡ f k → r ≡ f l
+by-kept f p e = e ∙ ap f (sym p)
 
 -- ---- one byte more, at the end
 
@@ -23,7 +28,8 @@ unfolding readFrom
 read-snoc l [] b = refl
 read-snoc l (a ∷ bs) b = read-snoc (next l a) bs b
 
-line-snoc : (bs : List ℕ) (b : ℕ) → lineOf (bs ++ (b ∷ [])) ≡ next (lineOf bs) b
+-- what feeding a byte does to a line
+pub line-snoc : (bs : List ℕ) (b : ℕ) → lineOf (bs ++ (b ∷ [])) ≡ next (lineOf bs) b
 unfolding lineOf
 line-snoc bs b = read-snoc Empty bs b
 
@@ -100,17 +106,11 @@ module _ {A : Type 0} (f : Line → A) (g : List ℕ → A) (b : ℕ) (bs : List
 
 -- ---- S
 
-abbrev pub sizeIn : Line → Said
-sizeIn Empty = said.Bad
-sizeIn (Digits true n v) = said.Bad
-sizeIn (Digits false n v) = said.Number v
-sizeIn Bad = said.Bad
-
-size-minus : (t : Bool) (k w : ℕ) → sizeIn (cond t (Digits true k w) Bad) ≡ said.Bad
+size-minus : (t : Bool) (k w : ℕ) → sizeIn (cond t (Digits true k w) Bad) ≡ number.Bad
 size-minus true k w = refl
 size-minus false k w = refl
 
-size-plain : (t : Bool) (k w : ℕ) → sizeIn (cond t (Digits false k w) Bad) ≡ cond t (said.Number w) said.Bad
+size-plain : (t : Bool) (k w : ℕ) → sizeIn (cond t (Digits false k w) Bad) ≡ cond t (number.Of w) number.Bad
 size-plain true k w = refl
 size-plain false k w = refl
 
@@ -132,18 +132,15 @@ size-digits bs h =
     size-plain (allDigits bs && (leb (0 + length bs) 20 && ltb (valueFrom 0 bs) (2 ^ 64))) (0 + length bs) (valueFrom 0 bs)
     ∙ rw (z, h)
 
-size-none : said.Bad ≡ sizeLine []
+size-none : number.Bad ≡ sizeLine []
 unfolding sizeLine allDigits valueFrom
 size-none = refl
 
-size-says : (bs : List ℕ) → sizeIn (lineOf bs) ≡ sizeLine bs
+-- what is kept of a line decides its number
+pub size-says : (bs : List ℕ) → sizeIn (lineOf bs) ≡ sizeLine bs
 unfolding lineOf readFrom next
 size-says [] = size-none
 size-says (b ∷ bs) = by-first sizeIn sizeLine b bs _ refl (size-after-minus b bs) (λ h. size-digits (b ∷ bs) (le-leb 1 (suc (length bs)) (omega arith)))
-
--- an answer that goes by what is kept goes by the bytes
-pub sized : {l k : Line} → l ≡ k → (bs : List ℕ) → l ≡ lineOf bs → sizeIn k ≡ sizeLine bs
-sized p bs e = ap sizeIn (sym p ∙ e) ∙ size-says bs
 
 -- the sign is known
 pub signs : {l : Line} {m s : Bool} {n v : ℕ} → l ≡ Digits m n v → m ≡ s → l ≡ Digits s n v
@@ -151,21 +148,8 @@ signs {n = n} {v = v} p t = p ∙ ap (λ (x : Bool). Digits x n v) t
 
 -- ---- an id
 
-abbrev pub within : Bool → ℕ → Bool
-within true v = leb v (2 ^ 63)
-within false v = ltb v (2 ^ 63)
-
-abbrev pub signedBy : Bool → ℕ → ℤ
-signedBy true v = negℤ (pos v)
-signedBy false v = pos v
-
-abbrev pub idIn : Line → Said
-idIn Empty = said.Bad
-idIn (Digits m n v) = cond (leb 1 n && (leb n 19 && within m v)) (said.Id (signedBy m v)) said.Bad
-idIn Bad = said.Bad
-
-id-under : (m : Bool) (k w : ℕ) (p q : Bool) → (q ≡ true → p ≡ true) → (leb 1 k && (leb k 19 && within m w)) ≡ q → idIn (cond p (Digits m k w) Bad) ≡ cond q (said.Id (signedBy m w)) said.Bad
-id-under m k w true q h e = ap (λ (t : Bool). cond t (said.Id (signedBy m w)) said.Bad) e
+id-under : (m : Bool) (k w : ℕ) (p q : Bool) → (q ≡ true → p ≡ true) → (leb 1 k && (leb k 19 && within m w)) ≡ q → idIn (cond p (Digits m k w) Bad) ≡ cond q (id.Of (signedBy m w)) id.Bad
+id-under m k w true q h e = ap (λ (t : Bool). cond t (id.Of (signedBy m w)) id.Bad) e
 id-under m k w false true h e = absurd (let z : false ≡ true = h refl in let y : _≡_ {A = ℕ} 0 1 = cc in omega arith)
 id-under m k w false false h e = refl
 
@@ -173,7 +157,7 @@ within-low : (m : Bool) (w : ℕ) → within m w ≡ true → w < 2 ^ 64
 within-low true w h = omega (arith, leb-true w (2 ^ 63) h)
 within-low false w h = omega (arith, ltb-true w (2 ^ 63) h)
 
-id-ended : (m a : Bool) (k w : ℕ) → idIn (endedBy m a k w) ≡ cond (a && (leb 1 k && (leb k 19 && within m w))) (said.Id (signedBy m w)) said.Bad
+id-ended : (m a : Bool) (k w : ℕ) → idIn (endedBy m a k w) ≡ cond (a && (leb 1 k && (leb k 19 && within m w))) (id.Of (signedBy m w)) id.Bad
 id-ended m false k w = refl
 id-ended m true k w = id-under m k w _ _ holds refl
   where
@@ -195,20 +179,17 @@ id-digits b bs h =
     let z : 0 + suc (length bs) ≡ suc (length bs) = omega arith in
     id-ended false (allDigits (b ∷ bs)) (0 + length (b ∷ bs)) (valueFrom 0 (b ∷ bs)) ∙ rw (z, h)
 
-id-says : (bs : List ℕ) → idIn (lineOf bs) ≡ idLine bs
+-- what is kept of a line decides its id
+pub id-says : (bs : List ℕ) → idIn (lineOf bs) ≡ idLine bs
 unfolding lineOf readFrom next idLine
 id-says [] = refl
 id-says (b ∷ bs) = by-first idIn idLine b bs _ refl (id-after-minus b bs) (id-digits b bs)
 
-pub told : {l k : Line} {r : Said} → l ≡ k → r ≡ idIn k → (bs : List ℕ) → l ≡ lineOf bs → r ≡ idLine bs
-told p q bs e = q ∙ ap idIn (sym p ∙ e) ∙ id-says bs
-
 -- ---- no byte at all
 
-abbrev pub emptyIn : Line → Bool
-emptyIn Empty = true
-emptyIn (Digits m n v) = false
-emptyIn Bad = false
+abbrev pub isNil : List ℕ → Bool
+isNil [] = true
+isNil (b ∷ bs) = false
 
 bool-full : (t : Bool) (k l : Line) → emptyIn k ≡ false → emptyIn l ≡ false → emptyIn (cond t k l) ≡ false
 bool-full true k l p q = p
@@ -229,15 +210,8 @@ unfolding readFrom
 read-full l [] h = h
 read-full l (b ∷ bs) h = read-full (next l b) bs (next-full l b)
 
-empty-says : (bs : List ℕ) → emptyIn (lineOf bs) ≡ isNil bs
+-- only a line of no bytes is kept as an empty one
+pub empty-says : (bs : List ℕ) → emptyIn (lineOf bs) ≡ isNil bs
 unfolding lineOf readFrom
 empty-says [] = refl
 empty-says (b ∷ bs) = read-full (next Empty b) bs (next-full Empty b)
-
-pub emptied : {l k : Line} → l ≡ k → (bs : List ℕ) → l ≡ lineOf bs → emptyIn k ≡ isNil bs
-emptied p bs e = ap emptyIn (sym p ∙ e) ∙ empty-says bs
-
--- ---- one more byte
-
-pub fed : {l k r : Line} (b : ℕ) → l ≡ k → r ≡ next k b → (bs : List ℕ) → l ≡ lineOf bs → r ≡ lineOf (bs ++ (b ∷ []))
-fed b p q bs e = q ∙ ap (λ (x : Line). next x b) (sym p ∙ e) ∙ sym (line-snoc bs b)

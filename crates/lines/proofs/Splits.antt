@@ -1,19 +1,19 @@
 -- Laws of words: what one byte of a line does to its words, and a word as a part of its line. Assumes nothing.
 use mathlib.Core.Path.{_≡_, refl, sym, _∙_, ap}
-use mathlib.Core.Bool.{Bool, true, false, cond, _&&_}
+use mathlib.Core.Bool.{Bool, true, false, cond}
 use mathlib.Core.List.{List, [], _∷_, _++_}
-use Prim.Native.Nat.{ℕ, zero, suc, _+_, _-_, _*_, _^_, _≤_, _<_}
+use Prim.Native.Nat.{ℕ, zero, suc, _+_, _-_, _≤_, _<_}
 use native.Mathlib.Numerals.{add-one}
 use native.Mathlib.Omega.{arith}
-use lib.Dec.{ltb, eqb}
+use lib.Dec.{eqb}
 use lib.ListN.{length, take, drop, getD, drop-of-length-le}
 use lib.Seq.{drop-cons, drop-drop, take-suc, take-all}
-use borrow.Author.Tests.{eq-eqb, ne-eqb, lt-ltb, le-ltb}
-use Rattle.lines.specs.Line.{sizeLine}
-use Rattle.lines.specs.Reader.{lineOf}
+use borrow.Author.Tests.{eq-eqb, ne-eqb}
+use Rattle.lines.specs.Reader.{next, readFrom, lineOf}
 use Rattle.lines.specs.declared.Line.{Line}
-use Rattle.lines.specs.declared.Said.{Said}
-use Rattle.lines.specs.Words.{firstWord, afterFirst, fromWord, wordAt, wordCount, packFrom, isNumber, areNumbers}
+use Rattle.lines.specs.declared.Line.the-variants.{Empty}
+use Rattle.lines.specs.Words.{firstWord, afterFirst, fromWord, wordAt, wordCount}
+use Rattle.lines.proofs.Lines.{line-snoc}
 
 -- ---- one byte
 
@@ -36,18 +36,6 @@ module _ (s : List ℕ) (i : ℕ) (h : i < length s) where
   pub first-other : (getD s i 0 ≡ 32 → ⊥) → firstWord (drop i s) ≡ getD s i 0 ∷ firstWord (drop (i + 1) s)
   unfolding firstWord
   first-other e = ap firstWord cons ∙ ap (λ (t : Bool). cond t [] (getD s i 0 ∷ firstWord (drop (i + 1) s))) (ne-eqb (getD s i 0) 32 e)
-
-  pub pack-many : (v : ℕ) → 2 ^ 56 ≤ v → packFrom v (drop i s) ≡ 0
-  unfolding packFrom
-  pack-many v k = ap (packFrom v) cons ∙ ap (λ (t : Bool). cond t (packFrom (v * 256 + getD s i 0) (drop (i + 1) s)) 0) (le-ltb v (2 ^ 56) k)
-
-  pack-more : (v : ℕ) → v < 2 ^ 56 → packFrom v (drop i s) ≡ packFrom (v * 256 + getD s i 0) (drop (i + 1) s)
-  unfolding packFrom
-  pack-more v k = ap (packFrom v) cons ∙ ap (λ (t : Bool). cond t (packFrom (v * 256 + getD s i 0) (drop (i + 1) s)) 0) (lt-ltb v (2 ^ 56) k)
-
-  -- the byte is what stands there
-  pub pack-on : (v b p : ℕ) → v < 2 ^ 56 → b ≡ getD s i 0 → packFrom v (drop i s) ≡ p → packFrom (v * 256 + b) (drop (i + 1) s) ≡ p
-  pack-on v b p k e q = ap (λ (x : ℕ). packFrom (v * 256 + x) (drop (i + 1) s)) e ∙ sym (pack-more v k) ∙ q
 
   -- where a word ends
   pub end-space : getD s i 0 ≡ 32 → i + length (firstWord (drop i s)) ≡ i
@@ -75,10 +63,6 @@ module _ (s : List ℕ) (i : ℕ) (h : length s ≤ i) where
   pub count-last : wordCount (drop i s) ≡ 1
   unfolding wordCount
   count-last = ap wordCount none
-
-  pub pack-last : (v : ℕ) → packFrom v (drop i s) ≡ v
-  unfolding packFrom
-  pack-last v = ap (packFrom v) none
 
   pub past-last : drop i s ≡ drop (i + 1) s
   past-last =
@@ -135,39 +119,22 @@ from-none (suc k) bs h = absurd (omega arith)
 
 -- ---- a word byte by byte
 
-pub kept-more : (s : List ℕ) (i : ℕ) (r : Line) → i < length s → r ≡ lineOf (take i s ++ (getD s i 0 ∷ [])) → r ≡ lineOf (take (i + 1) s)
-kept-more s i r h e = e ∙ ap lineOf (sym (take-suc s i 0 h) ∙ ap (λ (n : ℕ). take n s) (sym (add-one i)))
+pub kept-more : (s : List ℕ) (i : ℕ) (l r : Line) → i < length s → l ≡ lineOf (take i s) → r ≡ next l (getD s i 0) → r ≡ lineOf (take (i + 1) s)
+kept-more s i l r h p e =
+    e
+    ∙ ap (λ (x : Line). next x (getD s i 0)) p
+    ∙ sym (line-snoc (take i s) (getD s i 0))
+    ∙ ap lineOf (sym (take-suc s i 0 h) ∙ ap (λ (n : ℕ). take n s) (sym (add-one i)))
+
+pub kept-none : (s : List ℕ) (r : Line) → r ≡ Empty → r ≡ lineOf (take 0 s)
+unfolding lineOf readFrom
+kept-none s r e = e
 
 pub kept-all : (s : List ℕ) (i : ℕ) (r : Line) → length s ≤ i → r ≡ lineOf (take i s) → r ≡ lineOf s
 kept-all s i r h e = e ∙ ap lineOf (take-all i s h)
 
--- ---- numbers
+-- ---- numbers and ids
 
 -- an answer that goes by what a word says
-pub told : {A : Type 0} (f : Said → A) {r k s : Said} → r ≡ k → r ≡ s → f k ≡ f s
+pub told : {A B : Type 0} (f : A → B) {r k s : A} → r ≡ k → r ≡ s → f k ≡ f s
 told f p q = ap f (sym p ∙ q)
-
-and-on : (a b c d : Bool) → b ≡ c → (a && (b && d)) ≡ ((a && c) && d)
-and-on true b c d e = ap (λ (x : Bool). x && d) e
-and-on false b c d e = refl
-
-and-true : (a : Bool) → (a && true) ≡ a
-and-true true = refl
-and-true false = refl
-
-numbers-next : (k j i : ℕ) (bs : List ℕ) → i ≡ suc k → areNumbers i j bs ≡ (isNumber (sizeLine (wordAt j bs)) && areNumbers k (j + 1) bs)
-unfolding areNumbers
-numbers-next k j i bs e = ap (λ (m : ℕ). areNumbers m j bs) e ∙ ap (λ (m : ℕ). isNumber (sizeLine (wordAt j bs)) && areNumbers k m bs) (sym (add-one j))
-
-pub numbers-step : (n i : ℕ) (bs : List ℕ) (ok is all : Bool) → i < n → is ≡ isNumber (sizeLine (wordAt i bs)) → (ok && areNumbers (n - i) i bs) ≡ all → ((ok && is) && areNumbers (n - (i + 1)) (i + 1) bs) ≡ all
-numbers-step n i bs ok is all h e q =
-    let k : n - i ≡ suc (n - (i + 1)) = omega arith in
-    sym (and-on ok (isNumber (sizeLine (wordAt i bs))) is (areNumbers (n - (i + 1)) (i + 1) bs) (sym e))
-    ∙ ap (λ (t : Bool). ok && t) (sym (numbers-next (n - (i + 1)) i (n - i) bs k))
-    ∙ q
-
-pub numbers-end : (n i : ℕ) (bs : List ℕ) (ok all : Bool) → n ≤ i → (ok && areNumbers (n - i) i bs) ≡ all → ok ≡ all
-unfolding areNumbers
-numbers-end n i bs ok all h q =
-    let k : n - i ≡ 0 = omega arith in
-    sym (and-true ok) ∙ sym (ap (λ (m : ℕ). ok && areNumbers m i bs) k) ∙ q

@@ -8,11 +8,10 @@ use mir.Syntax.{w64}
 use mir.Val.{SFits, ofZ, toZ}
 use mir.Facts.{toZ-ofZ, toZ-pos}
 use borrow.Author.Tests.{le-leb, lt-leb, lt-ltb, le-ltb, eq-eqb, ne-eqb}
-use Rattle.lines.specs.Reader.{digitOn, next}
+use Rattle.lines.specs.Reader.{digitOn, next, idIn}
 use Rattle.lines.specs.declared.Line.{Line}
 use Rattle.lines.specs.declared.Line.the-variants.{Empty, Digits, Bad}
-use Rattle.lines.specs.declared.Said.the-variants as said
-use Rattle.lines.proofs.Lines.{idIn}
+use Rattle.lines.specs.declared.Id.the-variants as id
 
 -- ---- one more digit
 
@@ -77,24 +76,24 @@ module _ (v : ℕ) (h : v ≤ 2 ^ 63) (n : v ≡ 9223372036854775808 → ⊥) wh
 -- ---- an id
 
 module _ (n v : ℕ) where
-  pub id-few : (m : Bool) → n < 1 → said.Bad ≡ idIn (Digits m n v)
+  pub id-few : (m : Bool) → n < 1 → id.Bad ≡ idIn (Digits m n v)
   id-few m h = sym (rw (lt-leb 1 n h))
 
-  pub id-many : (m : Bool) → 19 < n → said.Bad ≡ idIn (Digits m n v)
+  pub id-many : (m : Bool) → 19 < n → id.Bad ≡ idIn (Digits m n v)
   id-many m h = let l : 1 ≤ n = omega arith in sym (rw (le-leb 1 n l, lt-leb n 19 h))
 
   module _ (lo : 1 ≤ n) (hi : n ≤ 19) where
-    pub id-deep : 9223372036854775808 < v → said.Bad ≡ idIn (Digits true n v)
+    pub id-deep : 9223372036854775808 < v → id.Bad ≡ idIn (Digits true n v)
     id-deep h = sym (rw (le-leb 1 n lo, le-leb n 19 hi, lt-leb v (2 ^ 63) h))
 
-    pub id-negative : (z : ℤ) → v ≤ 9223372036854775808 → z ≡ negℤ (pos v) → said.Id (toZ w64 (ofZ w64 z)) ≡ idIn (Digits true n v)
+    pub id-negative : (z : ℤ) → v ≤ 9223372036854775808 → z ≡ negℤ (pos v) → id.Of (toZ w64 (ofZ w64 z)) ≡ idIn (Digits true n v)
     id-negative z h e =
-        ap (λ (x : ℤ). said.Id (toZ w64 (ofZ w64 x))) e
-        ∙ ap said.Id (toZ-ofZ (neg-fits v h))
+        ap (λ (x : ℤ). id.Of (toZ w64 (ofZ w64 x))) e
+        ∙ ap id.Of (toZ-ofZ (neg-fits v h))
         ∙ sym (rw (le-leb 1 n lo, le-leb n 19 hi, le-leb v (2 ^ 63) h))
 
-    pub id-high : 9223372036854775808 ≤ v → said.Bad ≡ idIn (Digits false n v)
+    pub id-high : 9223372036854775808 ≤ v → id.Bad ≡ idIn (Digits false n v)
     id-high h = sym (rw (le-leb 1 n lo, le-leb n 19 hi, le-ltb v (2 ^ 63) h))
 
-    pub id-positive : v < 9223372036854775808 → said.Id (toZ w64 v) ≡ idIn (Digits false n v)
-    id-positive h = ap said.Id (toZ-pos w64 h) ∙ sym (rw (le-leb 1 n lo, le-leb n 19 hi, lt-ltb v (2 ^ 63) h))
+    pub id-positive : v < 9223372036854775808 → id.Of (toZ w64 v) ≡ idIn (Digits false n v)
+    id-positive h = ap id.Of (toZ-pos w64 h) ∙ sym (rw (le-leb 1 n lo, le-leb n 19 hi, lt-ltb v (2 ^ 63) h))

@@ -5,8 +5,10 @@ use Prim.Native.Nat.{ℕ, _+_, _-_, _*_, _^_}
 use lib.Dec.{leb, ltb, eqb}
 use lib.IntN.{pos, negℤ}
 use lib.ListN.{length}
-use Rattle.lines.specs.declared.Said.{Said}
-use Rattle.lines.specs.declared.Said.the-variants as said
+use Rattle.lines.specs.declared.Id.{Id}
+use Rattle.lines.specs.declared.Id.the-variants as id
+use Rattle.lines.specs.declared.Number.{Number}
+use Rattle.lines.specs.declared.Number.the-variants as number
 
 -- ---- digits and their number
 
@@ -25,34 +27,30 @@ valueFrom v (b ∷ bs) = valueFrom (v * 10 + (b - 48)) bs
 abbrev pub value : List ℕ → ℕ
 value bs = valueFrom 0 bs
 
-abbrev pub isNil : List ℕ → Bool
-isNil [] = true
-isNil (b ∷ bs) = false
-
 -- ---- the two kinds of line
 
 -- S: 1 to 20 digits, below 2 ^ 64
-unfoldable pub sizeLine : List ℕ → Said
+unfoldable pub sizeLine : List ℕ → Number
 sizeLine bs =
     cond (allDigits bs && (leb 1 (length bs) && (leb (length bs) 20 && ltb (value bs) (2 ^ 64))))
-    (said.Number (value bs))
-    said.Bad
+    (number.Of (value bs))
+    number.Bad
 
 -- 1 to 19 digits, below 2 ^ 63
-unfoldable pub positive : List ℕ → Said
+unfoldable pub positive : List ℕ → Id
 positive bs =
     cond (allDigits bs && (leb 1 (length bs) && (leb (length bs) 19 && ltb (value bs) (2 ^ 63))))
-    (said.Id (pos (value bs)))
-    said.Bad
+    (id.Of (pos (value bs)))
+    id.Bad
 
 -- 1 to 19 digits after a minus, at most 2 ^ 63; -0 is 0
-unfoldable pub negative : List ℕ → Said
+unfoldable pub negative : List ℕ → Id
 negative bs =
     cond (allDigits bs && (leb 1 (length bs) && (leb (length bs) 19 && leb (value bs) (2 ^ 63))))
-    (said.Id (negℤ (pos (value bs))))
-    said.Bad
+    (id.Of (negℤ (pos (value bs))))
+    id.Bad
 
 -- an id: an optional minus, then its digits
-unfoldable pub idLine : List ℕ → Said
-idLine [] = said.Bad
+unfoldable pub idLine : List ℕ → Id
+idLine [] = id.Bad
 idLine (b ∷ bs) = cond (eqb b 45) (negative bs) (positive (b ∷ bs))

@@ -1,11 +1,14 @@
--- The words of a line, separated by single spaces; an empty line has one word, which is empty. The first word is a name, and is read as one number.
-use mathlib.Core.Bool.{Bool, true, false, cond, _&&_}
+-- The words of a line, separated by single spaces; an empty line has one word, which is empty.
+use mathlib.Core.Bool.{Bool, true, false, cond}
 use mathlib.Core.List.{List, [], _∷_}
-use Prim.Native.Nat.{ℕ, zero, suc, _+_, _*_, _^_}
-use lib.Dec.{ltb, eqb}
-use Rattle.lines.specs.Line.{sizeLine}
-use Rattle.lines.specs.declared.Said.{Said}
-use Rattle.lines.specs.declared.Said.the-variants as said
+use mathlib.Core.Path.{_≡_}
+use Prim.Native.Nat.{ℕ, zero, suc, _+_, _≤_, _<_}
+use lib.Dec.{eqb}
+use lib.IntN.{ℤ}
+use Rattle.lines.specs.declared.Id.{Id}
+use Rattle.lines.specs.declared.Id.the-variants as id
+use Rattle.lines.specs.declared.Number.{Number}
+use Rattle.lines.specs.declared.Number.the-variants as number
 
 -- ---- words
 
@@ -33,31 +36,28 @@ unfoldable pub wordCount : List ℕ → ℕ
 wordCount [] = 1
 wordCount (b ∷ bs) = cond (eqb b 32) (1 + wordCount bs) (wordCount bs)
 
--- ---- a name as one number
+-- r is the first of the names that the word is; how many they are, where it is none
+pub record Names (word names : List ℕ) (r : ℕ) : Type 0 where
+  pub found : r < wordCount names → wordAt r names ≡ word
+  pub none-before : (k : ℕ) → k < r → wordAt k names ≡ word → ⊥
+  pub at-most : r ≤ wordCount names
 
--- bytes after those of v in base 256; 0 where v has eight digits already
-unfoldable pub packFrom : ℕ → List ℕ → ℕ
-packFrom v [] = v
-packFrom v (b ∷ bs) = cond (ltb v (2 ^ 56)) (packFrom (v * 256 + b) bs) 0
+-- ---- numbers and ids
 
--- a 1 and then the bytes of the first word: no two words of up to seven bytes have the same
-unfoldable pub nameOf : List ℕ → ℕ
-nameOf bs = packFrom 1 (wordAt 0 bs)
-
--- ---- numbers
-
-abbrev pub isNumber : Said → Bool
-isNumber (said.Number n) = true
-isNumber (said.Id z) = false
-isNumber said.Bad = false
+abbrev pub isNumber : Number → Bool
+isNumber (number.Of n) = true
+isNumber number.Bad = false
 
 -- d for what is no number
-abbrev pub numberOr : ℕ → Said → ℕ
-numberOr d (said.Number n) = n
-numberOr d (said.Id z) = d
-numberOr d said.Bad = d
+abbrev pub numberOr : ℕ → Number → ℕ
+numberOr d (number.Of n) = n
+numberOr d number.Bad = d
 
--- k words from word j on are all numbers
-unfoldable pub areNumbers : ℕ → ℕ → List ℕ → Bool
-areNumbers zero j bs = true
-areNumbers (suc k) j bs = isNumber (sizeLine (wordAt j bs)) && areNumbers k (suc j) bs
+abbrev pub isId : Id → Bool
+isId (id.Of z) = true
+isId id.Bad = false
+
+-- d for what is no id
+abbrev pub idOr : ℤ → Id → ℤ
+idOr d (id.Of z) = z
+idOr d id.Bad = d

@@ -3,11 +3,12 @@ pub mod signs;
 pub mod words;
 
 ghost use mathlib.Core.Path.{_≡_};
-ghost use mathlib.Core.List.{List, [], _∷_, _++_};
-ghost use Prim.Native.Nat.{ℕ, _^_, _≤_};
+ghost use Prim.Native.Nat.{_^_, _≤_};
 ghost use lib.IntN.{pos, negℤ};
-ghost use Rattle.lines.specs.Line.{sizeLine, idLine, isNil};
-ghost use Rattle.lines.specs.Reader.{digitOn, lineOf};
+ghost use Rattle.lines.specs.Reader.{digitOn, next, emptyIn, sizeIn, idIn};
+ghost use Rattle.lines.specs.declared.Line.the-variants.{Empty};
+use signs::HALF;
+use signs::SMALLEST;
 
 // What is kept of a line so far: whether it has a minus, how many digits, and their number.
 pub enum Line {
@@ -16,25 +17,24 @@ pub enum Line {
     Bad,
 }
 
-// What a whole line says.
-pub enum Said {
-    Number(u64),
-    Id(i64),
+// What a whole line says as S.
+pub enum Number {
+    Of(u64),
     Bad,
 }
 
-// 2 ^ 63: the magnitude of the smallest i64.
-const HALF: u64 = 9223372036854775808;
-
-// The smallest i64.
-const SMALLEST: i64 = -9223372036854775808;
+// What a whole line says as an id.
+pub enum Id {
+    Of(i64),
+    Bad,
+}
 
 // 2 ^ 64 - 1
 const MOST: u64 = 18446744073709551615;
 
 // A line before its first byte.
 pub fn start() -> Line
-    ensures { λ r. ⌜ r ≡ lineOf [] ⌝ }
+    ensures { λ r. ⌜ r ≡ Empty ⌝ }
 {
     Line::Empty
 }
@@ -61,7 +61,7 @@ fn digit(minus: bool, n: u64, v: u64, b: u8) -> Line
 
 // The line with one more byte.
 pub fn feed(l: Line, b: u8) -> Line
-    ensures { λ r. ⌜ ((bs : List ℕ) → l ≡ lineOf bs → r ≡ lineOf (bs ++ (b ∷ []))) ⌝ }
+    ensures { λ r. ⌜ r ≡ next l b ⌝ }
 {
     match l {
         Line::Empty => {
@@ -77,7 +77,7 @@ pub fn feed(l: Line, b: u8) -> Line
 
 // Whether the line has no byte.
 pub fn is_empty(l: Line) -> bool
-    ensures { λ r. ⌜ ((bs : List ℕ) → l ≡ lineOf bs → r ≡ isNil bs) ⌝ }
+    ensures { λ r. ⌜ r ≡ emptyIn l ⌝ }
 {
     match l {
         Line::Empty => true,
@@ -87,18 +87,18 @@ pub fn is_empty(l: Line) -> bool
 }
 
 // The line as S.
-pub fn size_line(l: Line) -> Said
-    ensures { λ r. ⌜ ((bs : List ℕ) → l ≡ lineOf bs → r ≡ sizeLine bs) ⌝ }
+pub fn size_line(l: Line) -> Number
+    ensures { λ r. ⌜ r ≡ sizeIn l ⌝ }
 {
     match l {
-        Line::Empty => Said::Bad,
+        Line::Empty => Number::Bad,
         Line::Digits(minus, _, v) => {
             if minus {
-                return Said::Bad;
+                return Number::Bad;
             }
-            Said::Number(v)
+            Number::Of(v)
         }
-        Line::Bad => Said::Bad,
+        Line::Bad => Number::Bad,
     }
 }
 
@@ -114,29 +114,29 @@ fn negated(v: u64) -> i64
 }
 
 // The line as an id.
-pub fn id_line(l: Line) -> Said
-    ensures { λ r. ⌜ ((bs : List ℕ) → l ≡ lineOf bs → r ≡ idLine bs) ⌝ }
+pub fn id_line(l: Line) -> Id
+    ensures { λ r. ⌜ r ≡ idIn l ⌝ }
 {
     match l {
-        Line::Empty => Said::Bad,
+        Line::Empty => Id::Bad,
         Line::Digits(minus, n, v) => {
             if n < 1 {
-                return Said::Bad;
+                return Id::Bad;
             }
             if 19 < n {
-                return Said::Bad;
+                return Id::Bad;
             }
             if minus {
                 if HALF < v {
-                    return Said::Bad;
+                    return Id::Bad;
                 }
-                return Said::Id(negated(v));
+                return Id::Of(negated(v));
             }
             if HALF <= v {
-                return Said::Bad;
+                return Id::Bad;
             }
-            Said::Id(v as i64)
+            Id::Of(v as i64)
         }
-        Line::Bad => Said::Bad,
+        Line::Bad => Id::Bad,
     }
 }

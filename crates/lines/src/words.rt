@@ -1,17 +1,15 @@
-// The words of a line, separated by single spaces: a name, then numbers and ids. An empty line has one word, which is empty.
+// The words of a line, separated by single spaces: names, numbers and ids. An empty line has one word, which is empty.
 // As in the program of document 01 a number has 1 to 20 digits and fits a u64; an id has an optional minus and 1 to 19 digits and fits an i64. So
 // leading zeros count as digits, -0 is an id and no number, and a plus is neither.
 ghost use mathlib.Core.Path.{_≡_};
-ghost use Prim.Native.Nat.{_+_, _-_, _≤_};
+ghost use Prim.Native.Nat.{_+_, _≤_};
 ghost use lib.ListN.{length, drop};
 ghost use Rattle.lines.specs.Line.{sizeLine, idLine};
 ghost use Rattle.lines.specs.Reader.{lineOf};
-ghost use Rattle.lines.specs.Words.{firstWord, fromWord, wordAt, wordCount, packFrom, nameOf, isNumber, numberOr, areNumbers};
+ghost use Rattle.lines.specs.Words.{firstWord, fromWord, wordAt, wordCount, Names, isNumber, numberOr, isId, idOr};
+use crate::Id;
 use crate::Line;
-use crate::Said;
-
-// 2 ^ 56: seven bytes after a 1 make at least that.
-const SEVEN_BYTES: u64 = 72057594037927936;
+use crate::Number;
 
 // How many words there are: one more than spaces.
 pub fn count(line: &[u8]) -> u64
@@ -80,20 +78,20 @@ fn kept(word: &[u8]) -> Line
     l
 }
 
-// Word j, as the reader keeps it.
-fn read(line: &[u8], j: u64) -> Line
-    ensures { λ r. ⌜ r ≡ lineOf (wordAt j (now (line .entry))) ⌝ }
+// Word j.
+pub fn word(line: &[u8], j: u64) -> &[u8]
+    ensures { λ r. ⌜ now r ≡ wordAt j (now (line .entry)) ⌝ }
 {
     let a = start(line, j);
     let e = end(line, a);
-    kept(&line[a..e])
+    &line[a..e]
 }
 
 // Word j as a number.
-pub fn number(line: &[u8], j: u64) -> Said
+pub fn number(line: &[u8], j: u64) -> Number
     ensures { λ r. ⌜ r ≡ sizeLine (wordAt j (now (line .entry))) ⌝ }
 {
-    crate::size_line(read(line, j))
+    crate::size_line(kept(word(line, j)))
 }
 
 // Word j as a number, d where it is none.
@@ -101,68 +99,66 @@ pub fn number_or(line: &[u8], j: u64, d: u64) -> u64
     ensures { λ r. ⌜ r ≡ numberOr d (sizeLine (wordAt j (now (line .entry)))) ⌝ }
 {
     match number(line, j) {
-        Said::Number(n) => n,
-        Said::Id(_) => d,
-        Said::Bad => d,
+        Number::Of(n) => n,
+        Number::Bad => d,
     }
 }
 
-fn is_number(line: &[u8], j: u64) -> bool
+// Whether word j is a number.
+pub fn is_number(line: &[u8], j: u64) -> bool
     ensures { λ r. ⌜ r ≡ isNumber (sizeLine (wordAt j (now (line .entry)))) ⌝ }
 {
     match number(line, j) {
-        Said::Number(_) => true,
-        Said::Id(_) => false,
-        Said::Bad => false,
+        Number::Of(_) => true,
+        Number::Bad => false,
     }
-}
-
-// Whether the words from j to before n are numbers.
-pub fn are_numbers(line: &[u8], j: u64, n: u64) -> bool
-    ensures { λ r. ⌜ r ≡ areNumbers (n - j) j (now (line .entry)) ⌝ }
-{
-    let mut ok = true;
-    let mut i = j;
-    while i < n {
-        ok = ok & is_number(line, i);
-        i += 1;
-    }
-    ok
 }
 
 // Word j as an id.
-pub fn id(line: &[u8], j: u64) -> Said
+pub fn id(line: &[u8], j: u64) -> Id
     ensures { λ r. ⌜ r ≡ idLine (wordAt j (now (line .entry))) ⌝ }
 {
-    crate::id_line(read(line, j))
+    crate::id_line(kept(word(line, j)))
 }
 
-fn wide(b: u8) -> u64
-    ensures { λ r. ⌜ r ≡ b ⌝ }
+// Word j as an id, d where it is none.
+pub fn id_or(line: &[u8], j: u64, d: i64) -> i64
+    ensures { λ r. ⌜ r ≡ idOr d (idLine (wordAt j (now (line .entry)))) ⌝ }
 {
-    b as u64
+    match id(line, j) {
+        Id::Of(z) => z,
+        Id::Bad => d,
+    }
 }
 
-// A 1 and then the bytes, as one number in base 256; 0 for more than seven bytes.
-fn packed(word: &[u8]) -> u64
-    ensures { λ r. ⌜ r ≡ packFrom 1 (now (word .entry)) ⌝ }
+// Whether word j is an id.
+pub fn is_id(line: &[u8], j: u64) -> bool
+    ensures { λ r. ⌜ r ≡ isId (idLine (wordAt j (now (line .entry)))) ⌝ }
 {
-    let mut v: u64 = 1;
-    let mut i: usize = 0;
-    while i < word.len() {
-        if SEVEN_BYTES <= v {
-            return 0;
+    match id(line, j) {
+        Id::Of(_) => true,
+        Id::Bad => false,
+    }
+}
+
+// Which of the names it is.
+fn place(it: &[u8], names: &[u8]) -> u64
+    ensures { λ r. ⌜ Names (now (it .entry)) (now (names .entry)) r ⌝ }
+{
+    let n = count(names);
+    let mut i: u64 = 0;
+    while i < n {
+        if check::same(word(names, i), it) {
+            return i;
         }
-        v = v * 256 + wide(word[i]);
         i += 1;
     }
-    v
+    i
 }
 
-// The first word, packed.
-pub fn name(line: &[u8]) -> u64
-    ensures { λ r. ⌜ r ≡ nameOf (now (line .entry)) ⌝ }
+// Which of the names, words of a line of their own, word j is: as many as they are where it is none.
+pub fn named(line: &[u8], j: u64, names: &[u8]) -> u64
+    ensures { λ r. ⌜ Names (wordAt j (now (line .entry))) (now (names .entry)) r ⌝ }
 {
-    let e = end(line, 0);
-    packed(&line[0..e])
+    place(word(line, j), names)
 }

@@ -2,8 +2,9 @@
 ghost use Prim.Native.Nat.{_<_};
 use document::answer::Outcome;
 use inserts::insert;
+use lines::Id;
 use lines::Line;
-use lines::Said;
+use lines::Number;
 
 // How far the input is read: in a line, with its number and S (0 on the first line); to its end, with S; or to the first fault.
 pub enum Input {
@@ -23,9 +24,8 @@ pub enum Act {
 // The first line has ended.
 fn first_line(l: Line) -> Input {
     match lines::size_line(l) {
-        Said::Number(s) => Input::Line(lines::start(), 2, s),
-        Said::Id(_) => Input::Bad(1),
-        Said::Bad => Input::Bad(1),
+        Number::Of(s) => Input::Line(lines::start(), 2, s),
+        Number::Bad => Input::Bad(1),
     }
 }
 
@@ -35,9 +35,8 @@ fn line_end(l: Line, n: u64, s: u64) -> Act {
         return Act::Go(first_line(l));
     }
     match lines::id_line(l) {
-        Said::Id(id) => Act::Insert(id, n, s),
-        Said::Number(_) => Act::Go(Input::Bad(n)),
-        Said::Bad => Act::Go(Input::Bad(n)),
+        Id::Of(id) => Act::Insert(id, n, s),
+        Id::Bad => Act::Go(Input::Bad(n)),
     }
 }
 

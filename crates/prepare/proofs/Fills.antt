@@ -10,7 +10,8 @@ use Rattle.layout.specs.Sizes.{wide}
 use Rattle.layout.specs.Places.{rowPart, pagePart}
 use Rattle.document.specs.declared.sizes.Sizes.{Sizes}
 use Rattle.layout.specs.Writes.{putPart}
-use Rattle.steps.proofs.Lent.{span, put-lent}
+use Rattle.layout.proofs.Lent.{span}
+use Rattle.steps.proofs.Lent.{put-lent}
 
 -- page p with the members of row r
 pub fill-put : (pages rows : List ℕ) (h : Sizes) (r p l i j k : ℕ) → i ≡ r * h .m → j ≡ p * wide h → k ≡ wide h → (ys : List ℕ)

@@ -10,6 +10,7 @@ ghost use Rattle.layout.specs.Places.{hasPage};
 ghost use Rattle.layout.specs.Entries.{chunkAt, placeAt};
 ghost use Rattle.calls.specs.Prepare.{overNeeded, pagesNeeded};
 ghost use Rattle.prepare.specs.PreparePlan.{planTo, planPrepare};
+use document::refusal;
 use document::sizes::Sizes;
 use layout::entry;
 use layout::find;
@@ -17,7 +18,6 @@ use layout::head;
 use layout::place;
 use layout_walk::walk;
 use numbers::Natural;
-use numbers::element;
 use numbers::id as ids;
 use numbers::order;
 
@@ -41,7 +41,7 @@ pub fn pages_needed(table: &[u64], h: Sizes, c: u64) -> u64
     requires { ⌜ InRange h × (overCount (now table) ≤ 65536) × (c < 2 ^ 62) ⌝ }
     ensures { λ n. ⌜ n ≡ pagesNeeded h (now (table .entry)) c ⌝ }
 {
-    let n = h.d + element::at(table, 7);
+    let n = h.d + head::over_count(table);
     let mut k: u64 = 0;
     let mut e: u64 = 0;
     while e < n {
@@ -56,7 +56,7 @@ pub fn over_needed(table: &[u64], h: Sizes, c: u64) -> u64
     requires { ⌜ InRange h × (overCount (now table) ≤ 65536) × (c < 2 ^ 62) ⌝ }
     ensures { λ n. ⌜ n ≡ overNeeded h (now (table .entry)) c ⌝ }
 {
-    let n = element::at(table, 7);
+    let n = head::over_count(table);
     let k = find::over_below(table, h, c + 1);
     n - k + order::minus(c + 1, h.d)
 }
@@ -67,10 +67,10 @@ pub fn judge(table: &[u64], h: Sizes, c: u64) -> Preparation
     ensures { λ q. ⌜ q ≡ planTo h (now (table .entry)) c ⌝ }
 {
     if h.v < over_needed(table, h, c) {
-        return Preparation::Refuse(6);
+        return Preparation::Refuse(refusal::OVERFLOW_FULL);
     }
     if h.p < pages_needed(table, h, c) {
-        return Preparation::Refuse(8);
+        return Preparation::Refuse(refusal::PAGES_FULL);
     }
     Preparation::Make(c)
 }
@@ -86,10 +86,10 @@ pub fn plan_for(
     ensures { λ q. ⌜ q ≡ planPrepare (memOf (pages .entry) (rows .entry) (blocks .entry) (table .entry)) «max_id» ⌝ }
 {
     if !walk::walk(pages, rows, blocks, table) {
-        return Preparation::Refuse(3);
+        return Preparation::Refuse(refusal::NOT_LAID_OUT);
     }
-    if element::at(table, 6) == 1 {
-        return Preparation::Refuse(4);
+    if head::mode(table) == head::RANKED {
+        return Preparation::Refuse(refusal::IS_RANKED);
     }
     let h = head::read(table);
     let Natural::At(c) = ids::chunk_of(max_id, h.s) else {

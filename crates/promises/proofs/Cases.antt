@@ -17,7 +17,7 @@ use Rattle.sums.specs.Cases.{PlainCase, PlainSays, plainTable}
 use Rattle.sums.proofs.Rules.{both}
 use Rattle.sums.proofs.Cases.{cases as plain-cases}
 use Rattle.dense.specs.Bits.{bit, isSet, bitsTo, withBit, withRow}
-use Rattle.sparse.specs.Search.{lowerIn, lowerOf, searchIn, spotIn, anyIn}
+use Rattle.sparse.specs.Search.{lowerIn, lowerOf, searchIn, foundIn, spotIn, anyIn}
 use Rattle.sparse.specs.Edit.{insertedAt}
 use Rattle.layout.specs.Places.{rowOwner, pageOwner}
 use Rattle.layout.specs.Entries.{chunkAt, wordAt, prefixAt, beside, wordOf}
@@ -146,7 +146,7 @@ all-say [] u = tt
 all-say (c ∷ cs) u = let b = both (proper c) (allProper cs) u in (computed-says c (b .0), all-say cs (b .1))
 
 table-computed : allComputed memoryRows ≡ memoryRows
-unfolding sumTo count allTo bit isSet bitsTo withBit withRow lowerIn lowerOf searchIn spotIn anyIn insertedAt inRange roomy zeroAt zeros keyIs wordIs overIs placeIs ownersAre prefixAfter prefixRises ranksRise entriesAre headIs tableIs walked kinds wordOf beside chunkAt wordAt prefixAt membersAt lowerKey wordIn spotOf zeroed freshTable fresh setUpBy putPart added putWord rowed paged firstFree insertPlan insertBy preparedPlan preparedBy densedTo overNeeded pagesNeeded prepareBy goodAt sizeBy usedAt partsOk lenBy hasAnyBy prefixed blocked blockedTo toRanked rankUpBy seatIn rankBy rankIfBy entryFrom anyEntry anyRun anyFrom anyBy
+unfolding sumTo count allTo bit isSet bitsTo withBit withRow lowerIn lowerOf searchIn foundIn spotIn anyIn insertedAt inRange roomy zeroAt zeros keyIs wordIs overIs placeIs ownersAre prefixAfter prefixRises ranksRise entriesAre headIs tableIs walked kinds wordOf beside chunkAt wordAt prefixAt membersAt lowerKey wordIn spotOf zeroed freshTable fresh setUpBy putPart added putWord rowed paged firstFree insertPlan insertBy preparedPlan preparedBy densedTo overNeeded pagesNeeded prepareBy goodAt sizeBy usedAt partsOk lenBy hasAnyBy prefixed blocked blockedTo toRanked rankUpBy seatIn rankBy rankIfBy entryFrom anyEntry anyRun anyFrom anyBy
 table-computed = refl
 
 table-proper : allProper memoryRows ≡ true

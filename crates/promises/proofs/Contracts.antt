@@ -29,7 +29,7 @@ use Rattle.ranked.proofs.form.into_ranked as into_ranked
 use Rattle.ranked.proofs.form.«into_open» as leaving
 use Rattle.idset.proofs.read.get as get
 use Rattle.idset.proofs.read.chunk_of as chunk_of
-use Rattle.scan.proofs.range.any_in_range as any_in_range
+use Rattle.scan.proofs.range.«any_in_range» as ranging
 use Rattle.scan.proofs.listing.iter_from as iter_from
 use Rattle.idset.proofs.count.len as len
 use Rattle.idset.proofs.count.is_empty as is_empty
@@ -56,7 +56,7 @@ use Rattle.ranked.proofs.form.into_ranked.Symbol as into_ranked-at
 use Rattle.ranked.proofs.form.«into_open».Symbol as leaving-at
 use Rattle.idset.proofs.read.get.Symbol as get-at
 use Rattle.idset.proofs.read.chunk_of.Symbol as chunk_of-at
-use Rattle.scan.proofs.range.any_in_range.Symbol as any_in_range-at
+use Rattle.scan.proofs.range.«any_in_range».Symbol as ranging-at
 use Rattle.scan.proofs.listing.iter_from.Symbol as iter_from-at
 use Rattle.idset.proofs.count.len.Symbol as len-at
 use Rattle.idset.proofs.count.is_empty.Symbol as is_empty-at
@@ -83,7 +83,7 @@ use Rattle.ranked.proofs.form.into_ranked.Met as into_ranked-met
 use Rattle.ranked.proofs.form.«into_open».Met as leaving-met
 use Rattle.idset.proofs.read.get.Met as get-met
 use Rattle.idset.proofs.read.chunk_of.Met as chunk_of-met
-use Rattle.scan.proofs.range.any_in_range.Met as any_in_range-met
+use Rattle.scan.proofs.range.«any_in_range».Met as ranging-met
 use Rattle.scan.proofs.listing.iter_from.Met as iter_from-met
 use Rattle.idset.proofs.count.len.Met as len-met
 use Rattle.idset.proofs.count.is_empty.Met as is_empty-met
@@ -131,7 +131,7 @@ module _ {M : Type 1} (𝓤 : URA M) (H : Heap 𝓤) where
     pub chunk-of-is : chunk_of.spec 𝓤 H A m run ≡ Ensures 𝓤 H A chunk_of.ended (λ κs a r e. Answers (four a) (calls.chunk-of (a .1 .1 .1 .1 .0)) (maybe r))
     chunk-of-is = refl
 
-    pub any-in-range-is : any_in_range.spec 𝓤 H A m run ≡ Ensures 𝓤 H A any_in_range.ended (λ κs a r e. Answers (four a) (calls.any-in-range (a .1 .1 .1 .1 .0) (a .1 .1 .1 .1 .1 .0)) (whether r))
+    pub any-in-range-is : ranging.spec 𝓤 H A m run ≡ Ensures 𝓤 H A ranging.ended (λ κs a r e. Answers (four a) (calls.any-in-range (a .1 .1 .1 .1 .0) (a .1 .1 .1 .1 .1 .0)) (whether r))
     any-in-range-is = refl
 
     pub iter-from-is : iter_from.spec 𝓤 H A m run ≡ Ensures 𝓤 H A iter_from.ended (λ κs a r e. Answers (four a) (calls.iterate (a .1 .1 .1 .1 .0)) (listed r))
@@ -222,9 +222,9 @@ module _ {M : Type 1} (𝓤 : URA M) (H : Heap 𝓤) where
         (Ensures 𝓤 H (𝓖 .A) chunk_of.ended (λ κs a r e. Answers (four a) (calls.chunk-of (a .1 .1 .1 .1 .0)) (maybe r)))
     chunk-of-meets = chunk_of-met.met 𝓤 H 𝓜 𝓖 𝓡
 
-    pub any-in-range-meets : Meets 𝓤 H (𝓖 .A) any_in_range.signature (𝓡 .run any_in_range-at.routine)
-        (Ensures 𝓤 H (𝓖 .A) any_in_range.ended (λ κs a r e. Answers (four a) (calls.any-in-range (a .1 .1 .1 .1 .0) (a .1 .1 .1 .1 .1 .0)) (whether r)))
-    any-in-range-meets = any_in_range-met.met 𝓤 H 𝓜 𝓖 𝓡
+    pub any-in-range-meets : Meets 𝓤 H (𝓖 .A) ranging.signature (𝓡 .run ranging-at.routine)
+        (Ensures 𝓤 H (𝓖 .A) ranging.ended (λ κs a r e. Answers (four a) (calls.any-in-range (a .1 .1 .1 .1 .0) (a .1 .1 .1 .1 .1 .0)) (whether r)))
+    any-in-range-meets = ranging-met.met 𝓤 H 𝓜 𝓖 𝓡
 
     pub iter-from-meets : Meets 𝓤 H (𝓖 .A) iter_from.signature (𝓡 .run iter_from-at.routine)
         (Ensures 𝓤 H (𝓖 .A) iter_from.ended (λ κs a r e. Answers (four a) (calls.iterate (a .1 .1 .1 .1 .0)) (listed r)))

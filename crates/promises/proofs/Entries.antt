@@ -24,7 +24,7 @@ use Rattle.numbers.specs.Budget.{slotsForBudget, fileBoundedMaxId}
 use Rattle.layout.specs.SetUp.{sizesOf}
 use Rattle.contracts.specs.Does.{Does, Answers, SetsUp}
 use Rattle.cuts.specs.Promise.{Plans}
-use Rattle.exports.specs.Codes.{Coded, outcomeCode, truthCode, amountCode, perhapsCode, planningCode, spannedCode, ranksCode, planIn, spanIn}
+use Rattle.codes.specs.Codes.{Coded, outcomeCode, truthCode, amountCode, perhapsCode, planningCode, spannedCode, ranksCode, planIn, spanIn}
 use Rattle.promises.proofs.Ensures.{four, two, Ensures}
 use Rattle.exports.proofs.change.bp_set_up as bp_set_up
 use Rattle.exports.proofs.change.bp_set_if_new as bp_set_if_new
@@ -35,7 +35,7 @@ use Rattle.exports.proofs.change.bp_into_ranked as bp_into_ranked
 use Rattle.exports.proofs.change.«bp_into_open» as bp_leaving
 use Rattle.exports.proofs.read.bp_get as bp_get
 use Rattle.exports.proofs.read.bp_chunk_of as bp_chunk_of
-use Rattle.exports.proofs.read.bp_any_in_range as bp_any_in_range
+use Rattle.exports.proofs.read.«bp_any_in_range» as bp_ranging
 use Rattle.exports.proofs.read.bp_iter_from as bp_iter_from
 use Rattle.exports.proofs.read.bp_len as bp_len
 use Rattle.exports.proofs.read.bp_is_empty as bp_is_empty
@@ -61,7 +61,7 @@ use Rattle.exports.proofs.change.bp_into_ranked.Symbol as bp_into_ranked-at
 use Rattle.exports.proofs.change.«bp_into_open».Symbol as bp_leaving-at
 use Rattle.exports.proofs.read.bp_get.Symbol as bp_get-at
 use Rattle.exports.proofs.read.bp_chunk_of.Symbol as bp_chunk_of-at
-use Rattle.exports.proofs.read.bp_any_in_range.Symbol as bp_any_in_range-at
+use Rattle.exports.proofs.read.«bp_any_in_range».Symbol as bp_ranging-at
 use Rattle.exports.proofs.read.bp_iter_from.Symbol as bp_iter_from-at
 use Rattle.exports.proofs.read.bp_len.Symbol as bp_len-at
 use Rattle.exports.proofs.read.bp_is_empty.Symbol as bp_is_empty-at
@@ -87,7 +87,7 @@ use Rattle.exports.proofs.change.bp_into_ranked.Met as bp_into_ranked-met
 use Rattle.exports.proofs.change.«bp_into_open».Met as bp_leaving-met
 use Rattle.exports.proofs.read.bp_get.Met as bp_get-met
 use Rattle.exports.proofs.read.bp_chunk_of.Met as bp_chunk_of-met
-use Rattle.exports.proofs.read.bp_any_in_range.Met as bp_any_in_range-met
+use Rattle.exports.proofs.read.«bp_any_in_range».Met as bp_ranging-met
 use Rattle.exports.proofs.read.bp_iter_from.Met as bp_iter_from-met
 use Rattle.exports.proofs.read.bp_len.Met as bp_len-met
 use Rattle.exports.proofs.read.bp_is_empty.Met as bp_is_empty-met
@@ -134,7 +134,7 @@ module _ {M : Type 1} (𝓤 : URA M) (H : Heap 𝓤) where
     pub bp-chunk-of-is : bp_chunk_of.spec 𝓤 H A m run ≡ Ensures 𝓤 H A bp_chunk_of.ended (λ κs a r e. Coded perhapsCode (λ (t : Perhaps). Answers (four a) (calls.chunk-of (a .1 .1 .1 .1 .0)) (maybe t)) r)
     bp-chunk-of-is = refl
 
-    pub bp-any-in-range-is : bp_any_in_range.spec 𝓤 H A m run ≡ Ensures 𝓤 H A bp_any_in_range.ended (λ κs a r e. Coded truthCode (λ (t : Truth). Answers (four a) (calls.any-in-range (a .1 .1 .1 .1 .0) (a .1 .1 .1 .1 .1 .0)) (whether t)) r)
+    pub bp-any-in-range-is : bp_ranging.spec 𝓤 H A m run ≡ Ensures 𝓤 H A bp_ranging.ended (λ κs a r e. Coded truthCode (λ (t : Truth). Answers (four a) (calls.any-in-range (a .1 .1 .1 .1 .0) (a .1 .1 .1 .1 .1 .0)) (whether t)) r)
     bp-any-in-range-is = refl
 
     pub bp-iter-from-is : bp_iter_from.spec 𝓤 H A m run ≡ Ensures 𝓤 H A bp_iter_from.ended (λ κs a r e. Answers (four a) (calls.iterate (a .1 .1 .1 .1 .0)) (listed r))
@@ -222,9 +222,9 @@ module _ {M : Type 1} (𝓤 : URA M) (H : Heap 𝓤) where
         (Ensures 𝓤 H (𝓖 .A) bp_chunk_of.ended (λ κs a r e. Coded perhapsCode (λ (t : Perhaps). Answers (four a) (calls.chunk-of (a .1 .1 .1 .1 .0)) (maybe t)) r))
     bp-chunk-of-meets = bp_chunk_of-met.met 𝓤 H 𝓜 𝓖 𝓡
 
-    pub bp-any-in-range-meets : Meets 𝓤 H (𝓖 .A) bp_any_in_range.signature (𝓡 .run bp_any_in_range-at.routine)
-        (Ensures 𝓤 H (𝓖 .A) bp_any_in_range.ended (λ κs a r e. Coded truthCode (λ (t : Truth). Answers (four a) (calls.any-in-range (a .1 .1 .1 .1 .0) (a .1 .1 .1 .1 .1 .0)) (whether t)) r))
-    bp-any-in-range-meets = bp_any_in_range-met.met 𝓤 H 𝓜 𝓖 𝓡
+    pub bp-any-in-range-meets : Meets 𝓤 H (𝓖 .A) bp_ranging.signature (𝓡 .run bp_ranging-at.routine)
+        (Ensures 𝓤 H (𝓖 .A) bp_ranging.ended (λ κs a r e. Coded truthCode (λ (t : Truth). Answers (four a) (calls.any-in-range (a .1 .1 .1 .1 .0) (a .1 .1 .1 .1 .1 .0)) (whether t)) r))
+    bp-any-in-range-meets = bp_ranging-met.met 𝓤 H 𝓜 𝓖 𝓡
 
     pub bp-iter-from-meets : Meets 𝓤 H (𝓖 .A) bp_iter_from.signature (𝓡 .run bp_iter_from-at.routine)
         (Ensures 𝓤 H (𝓖 .A) bp_iter_from.ended (λ κs a r e. Answers (four a) (calls.iterate (a .1 .1 .1 .1 .0)) (listed r)))

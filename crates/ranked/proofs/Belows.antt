@@ -1,4 +1,4 @@
--- Members of a chunk below an offset, and whether the offset is one, way by way. Assumes nothing.
+-- Members of a chunk below an offset, way by way. Assumes nothing.
 use mathlib.Core.Path.{_≡_, sym, ap, subst, _∙_}
 use mathlib.Core.List.{List, []}
 use mathlib.Core.Bool.{Bool, cond}
@@ -6,20 +6,21 @@ use Prim.Native.Nat.{ℕ, _+_, _-_, _*_, _/_, _%_, _^_, _≤_, _<_}
 use native.Mathlib.Omega.{arith}
 use lib.ListN.{length, getD, take, drop}
 use borrow.Author.Tests.{lt-ltb, le-ltb}
-use Rattle.sparse.specs.Search.{lowerOf, searchIn}
-use Rattle.sparse.specs.declared.Place as sparse
+use Rattle.sparse.specs.Search.{lowerOf}
 use Rattle.sparse.proofs.Halving.{lower-le}
-use Rattle.dense.specs.Bits.{bitsTo, isSet}
+use Rattle.dense.specs.Bits.{bitsTo}
 use Rattle.dense.proofs.Counts.{bits-le}
 use Rattle.layout.specs.Mem.{Mem, mem}
+use Rattle.document.specs.Refusals.{not-laid-out}
 use Rattle.document.specs.declared.answer.Amount.{Amount}
 use Rattle.document.specs.declared.answer.Amount.the-variants.{Of, Refused}
 use Rattle.layout.specs.declared.find.Spot.{Spot}
-use Rattle.layout.specs.declared.find.Spot.the-variants.{Row, Page}
-use Rattle.calls.specs.Reading.{spotBy, isFound}
-use Rattle.ranks.specs.Rank.{inPage, belowAt, plus, hasSpot}
+use Rattle.layout.specs.declared.find.Spot.the-variants.{Row}
+use Rattle.calls.specs.Reading.{spotBy}
+use Rattle.ranks.specs.Rank.{inPage, belowAt, plus}
 use Rattle.ranked.specs.Counts.{Small}
-use Rattle.ranked.proofs.Parts.{InRows, span}
+use Rattle.layout.proofs.Lent.{span}
+use Rattle.calls.proofs.Spots.{InRows}
 
 -- ---- in a page
 
@@ -29,9 +30,9 @@ block-small ws o r e = let a = bits-le ws (o % 512) in omega arith
 
 module _ (pages blocks : List ℕ) (a n o : ℕ) where
   by-length : Bool → Amount
-  by-length b = cond b (Of (getD blocks (a / 8 + o / 512) 0 + bitsTo (take 8 (drop (o / 512 * 8) (take n (drop a pages)))) (o % 512))) (Refused 3)
+  by-length b = cond b (Of (getD blocks (a / 8 + o / 512) 0 + bitsTo (take 8 (drop (o / 512 * 8) (take n (drop a pages)))) (o % 512))) (Refused not-laid-out)
 
-  pub page-short : length blocks ≤ a / 8 + o / 512 → Refused 3 ≡ inPage (mem pages [] blocks []) a n o
+  pub page-short : length blocks ≤ a / 8 + o / 512 → Refused not-laid-out ≡ inPage (mem pages [] blocks []) a n o
   unfolding by-length
   page-short l = ap by-length (sym (le-ltb (a / 8 + o / 512) (length blocks) l))
 
@@ -54,23 +55,14 @@ module _ (x : Mem) (o w : ℕ) where
     (let b = lower-le (take (a + n - a) (drop a (x .rows))) l o in let s = i .short in let t = i .small in omega arith),
   )
 
-  pub has-spot : (q : Spot) → q ≡ spotBy x w → hasSpot x o q ≡ hasSpot x o (spotBy x w)
-  has-spot q e = ap (hasSpot x o) e
-
-  pub has-row : (a n l : ℕ) (b : Bool) (p : sparse.Place) → Row a n l ≡ spotBy x w → b ≡ isFound p → p ≡ searchIn (take (a + n - a) (drop a (x .rows))) l o → b ≡ hasSpot x o (spotBy x w)
-  has-row a n l b p e f g = f ∙ (ap isFound (g ∙ ap (λ (k : ℕ). searchIn (take k (drop a (x .rows))) l o) (span a n)) ∙ has-spot (Row a n l) e)
-
-  pub has-page : (a n : ℕ) (b : Bool) → Page a n ≡ spotBy x w → b ≡ isSet (take (a + n - a) (drop a (x .pages))) o → b ≡ hasSpot x o (spotBy x w)
-  has-page a n b e f = f ∙ (ap (λ (k : ℕ). isSet (take k (drop a (x .pages))) o) (span a n) ∙ has-spot (Page a n) e)
-
 -- ---- after the chunks before
 
 module _ (n : ℕ) (a : Amount) where
   pub small-of : (k : ℕ) → a ≡ Of k → Small a → k < 2 ^ 63
   small-of k e s = subst Small e s
 
-  pub plus-of : (k : ℕ) → a ≡ Of k → n < 9223372036854775808 → Of (n + k) ≡ plus n a
-  plus-of k e l = ap (λ (b : Bool). cond b (Of (n + k)) (Refused 3)) (sym (lt-ltb n (2 ^ 63) l)) ∙ ap (plus n) (sym e)
+  pub plus-of : (k : ℕ) → a ≡ Of k → n < 2 ^ 63 → Of (n + k) ≡ plus n a
+  plus-of k e l = ap (λ (b : Bool). cond b (Of (n + k)) (Refused not-laid-out)) (sym (lt-ltb n (2 ^ 63) l)) ∙ ap (plus n) (sym e)
 
-  pub plus-large : (k : ℕ) → a ≡ Of k → 9223372036854775808 ≤ n → Refused 3 ≡ plus n a
-  plus-large k e l = ap (λ (b : Bool). cond b (Of (n + k)) (Refused 3)) (sym (le-ltb n (2 ^ 63) l)) ∙ ap (plus n) (sym e)
+  pub plus-large : (k : ℕ) → a ≡ Of k → 2 ^ 63 ≤ n → Refused not-laid-out ≡ plus n a
+  plus-large k e l = ap (λ (b : Bool). cond b (Of (n + k)) (Refused not-laid-out)) (sym (le-ltb n (2 ^ 63) l)) ∙ ap (plus n) (sym e)

@@ -17,7 +17,7 @@ use Rattle.layout_laws.proofs.Sizes.{slot-inside, blocks-top}
 use Rattle.ranks.specs.Form.{blocked, blockedTo}
 use Rattle.ranks.proofs.Blocks.{blocked-length, blocks-at}
 use Rattle.ranked.specs.Counts.{counted, BlocksCounted}
-use Rattle.ranked.proofs.Parts.{span, length-part}
+use Rattle.layout.proofs.Lent.{span, length-lent}
 
 -- ---- the words of one page
 
@@ -92,7 +92,7 @@ module _ (h : Sizes) (z : InRange h) (pages : List ℕ) (p : ℕ) (l : p < h .p)
         (omega (arith, shifts h z .some-blocks, en), omega (arith, shifts h z .most-blocks, en), omega (arith, s, ek))
 
     pub page-long : length (take (a + m - a) (drop a pages)) ≡ 8 * n
-    page-long = let c = length-part pages a m page-fits in omega (arith, shifts h z .block-words, em, en)
+    page-long = let c = length-lent pages a m page-fits in omega (arith, shifts h z .block-words, em, en)
 
     pub page-counted : (blocks out : List ℕ) → out ≡ counted (take (a + m - a) (drop a pages)) blocks k n → out ≡ blocked h pages blocks p (blocksOf h)
     page-counted blocks out e =

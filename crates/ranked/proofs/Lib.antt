@@ -1,5 +1,4 @@
 pub mod Modes
-pub mod Parts
 pub mod Belows
 pub mod Answers
 pub mod Counting

@@ -2,16 +2,18 @@
 ghost use mathlib.Core.Path.{_≡_};
 ghost use mathlib.Core.List.{[]};
 ghost use Prim.Native.Nat.{_+_, _*_, _/_, _^_, _≤_, _<_};
-ghost use lib.ListN.{length, getD};
+ghost use lib.ListN.{length};
 ghost use Rattle.layout.specs.Mem.{mem, memOf};
-ghost use Rattle.calls.specs.Reading.{spotBy, isFound};
-ghost use Rattle.ranks.specs.Rank.{inPage, belowAt, plus, hasSpot};
+ghost use Rattle.layout.specs.Sizes.{headerAt};
+ghost use Rattle.calls.specs.Reading.{spotBy};
+ghost use Rattle.ranks.specs.Rank.{inPage, belowAt, plus};
 ghost use Rattle.ranked.specs.Counts.{Small};
 use dense::block;
 use document::answer::Amount;
+use document::refusal;
 use layout::find;
 use layout::find::Spot;
-use sparse::Place;
+use numbers::id;
 
 // In a page: the count of the offset's block, and what its eight words have below it.
 pub fn in_page(pages: &[u64], blocks: &[u32], a: usize, n: usize, o: u64) -> Amount
@@ -20,7 +22,7 @@ pub fn in_page(pages: &[u64], blocks: &[u32], a: usize, n: usize, o: u64) -> Amo
 {
     let i = a / 8 + (o / 512) as usize;
     if blocks.len() <= i {
-        return Amount::Refused(3);
+        return Amount::Refused(refusal::NOT_LAID_OUT);
     }
     let e = a + n;
     let words = block::block_at(&pages[a..e], (o / 512 * 8) as usize);
@@ -37,18 +39,18 @@ pub fn below(
     w: u64,
     o: u64,
 ) -> Amount
-    requires { ⌜ (9 ≤ s) × (s ≤ 25) × (s ≡ getD (now table) 0 0) × (o < 2 ^ s) ⌝ }
+    requires { ⌜ (9 ≤ s) × (s ≤ 25) × (s ≡ headerAt (now table) .s) × (o < 2 ^ s) ⌝ }
     ensures { λ r. ⌜ (let x = memOf (pages .entry) (rows .entry) (blocks .entry) (table .entry) in
         (r ≡ belowAt x o (spotBy x w)) × Small r) ⌝ }
 {
-    match find::spot_of(table, pages.len() as u64, rows.len() as u64, w) {
+    match find::spot_of(pages, rows, table, w) {
         Spot::Nowhere => Amount::Of(0),
         Spot::Row(a, n, l) => {
             let e = a + n;
             Amount::Of(sparse::below(&rows[a..e], l, o as u32) as u64)
         }
         Spot::Page(a, n) => in_page(pages, blocks, a, n, o),
-        Spot::Bad => Amount::Refused(3),
+        Spot::Bad => Amount::Refused(refusal::NOT_LAID_OUT),
     }
 }
 
@@ -60,47 +62,10 @@ pub fn after(before: u64, within: Amount) -> Amount
     match within {
         Amount::Refused(c) => Amount::Refused(c),
         Amount::Of(k) => {
-            if before < 9223372036854775808 {
+            if before < id::LIMIT {
                 return Amount::Of(before + k);
             }
-            Amount::Refused(3)
+            Amount::Refused(refusal::NOT_LAID_OUT)
         }
-    }
-}
-
-pub fn found(p: Place) -> bool
-    ensures { λ r. ⌜ r ≡ isFound p ⌝ }
-{
-    match p {
-        Place::Found(_) => true,
-        Place::Free(_) => false,
-    }
-}
-
-// Whether offset o is a member; a part that is not there is for the rank to refuse.
-pub fn has(
-    pages: &[u64],
-    rows: &[u32],
-    blocks: &[u32],
-    table: &[u64],
-    s: u64,
-    w: u64,
-    o: u64,
-) -> bool
-    requires { ⌜ (9 ≤ s) × (s ≤ 25) × (s ≡ getD (now table) 0 0) × (o < 2 ^ s) ⌝ }
-    ensures { λ r. ⌜ (let x = memOf (pages .entry) (rows .entry) (blocks .entry) (table .entry) in
-        r ≡ hasSpot x o (spotBy x w)) ⌝ }
-{
-    match find::spot_of(table, pages.len() as u64, rows.len() as u64, w) {
-        Spot::Nowhere => false,
-        Spot::Row(a, n, l) => {
-            let e = a + n;
-            found(sparse::search(&rows[a..e], l, o as u32))
-        }
-        Spot::Page(a, n) => {
-            let e = a + n;
-            dense::contains(&pages[a..e], o)
-        }
-        Spot::Bad => true,
     }
 }

@@ -10,6 +10,7 @@ use crate::mode;
 use crate::mode::Form;
 use crate::prefixes;
 use document::answer::Outcome;
+use document::refusal;
 use document::sizes::Sizes;
 use layout::head;
 use layout_writes::setup;
@@ -22,7 +23,7 @@ fn count_all(h: Sizes, pages: &[u64], rows: &[u32], blocks: &mut [u32], table: &
 {
     blocks::count_pages(h, pages, blocks);
     let n = prefixes::put_prefixes(h, pages, blocks, table);
-    prefixes::mark(table, 1, n);
+    prefixes::mark(table, head::RANKED, n);
 }
 
 // Clears what ranking counted.
@@ -33,7 +34,7 @@ fn clear_all(h: Sizes, pages: &[u64], rows: &[u32], blocks: &mut [u32], table: &
 {
     setup::zero32(blocks, head::block_at(h, h.p) as usize);
     prefixes::clear_prefixes(h, table);
-    prefixes::mark(table, 0, 0);
+    prefixes::mark(table, head::OPEN, 0);
 }
 
 // An open set becomes a ranked one.
@@ -43,8 +44,8 @@ pub fn into_ranked(pages: &[u64], rows: &[u32], blocks: &mut [u32], table: &mut 
         Does x rank-up (that r) y) ⌝ }
 {
     match mode::form_of(pages, rows, blocks, table) {
-        Form::Bad => Outcome::Refused(3),
-        Form::Ranked => Outcome::Refused(4),
+        Form::Bad => Outcome::Refused(refusal::NOT_LAID_OUT),
+        Form::Ranked => Outcome::Refused(refusal::IS_RANKED),
         Form::Open => {
             count_all(head::read(table), pages, rows, blocks, table);
             Outcome::Done
@@ -59,8 +60,8 @@ pub fn into_open(pages: &[u64], rows: &[u32], blocks: &mut [u32], table: &mut [u
         Does x leave (that r) y) ⌝ }
 {
     match mode::form_of(pages, rows, blocks, table) {
-        Form::Bad => Outcome::Refused(3),
-        Form::Open => Outcome::Refused(5),
+        Form::Bad => Outcome::Refused(refusal::NOT_LAID_OUT),
+        Form::Open => Outcome::Refused(refusal::IS_OPEN),
         Form::Ranked => {
             clear_all(head::read(table), pages, rows, blocks, table);
             Outcome::Done

@@ -2,8 +2,8 @@
 ghost use mathlib.Core.Path.{_≡_};
 ghost use Rattle.layout.specs.Mem.{memOf};
 ghost use Rattle.ranked.specs.Modes.{formIn, formOf};
+use layout::head;
 use layout_walk::walk;
-use numbers::element;
 
 pub enum Form {
     Open,
@@ -15,12 +15,12 @@ pub enum Form {
 pub fn form_in(table: &[u64]) -> Form
     ensures { λ f. ⌜ f ≡ formIn (now (table .entry)) ⌝ }
 {
-    let s = element::at(table, 0);
-    let m = element::at(table, 6);
-    if !((9 <= s) & (s <= 25) & (m <= 1)) {
+    let s = head::shift(table);
+    let m = head::mode(table);
+    if !((9 <= s) & (s <= 25) & (m <= head::RANKED)) {
         return Form::Bad;
     }
-    if m == 1 {
+    if m == head::RANKED {
         return Form::Ranked;
     }
     Form::Open
@@ -33,7 +33,7 @@ pub fn form_of(pages: &[u64], rows: &[u32], blocks: &[u32], table: &[u64]) -> Fo
     if !walk::walk(pages, rows, blocks, table) {
         return Form::Bad;
     }
-    if element::at(table, 6) == 1 {
+    if head::mode(table) == head::RANKED {
         return Form::Ranked;
     }
     Form::Open

@@ -11,16 +11,16 @@ ghost use Rattle.ranked.specs.Counts.{entrySize, BlocksCounted, Inside, 
 use crate::blocks;
 use document::sizes::Sizes;
 use layout::entry;
+use layout::head;
 use layout::place::Place;
 use layout_writes::write;
-use numbers::element;
 
 // How many entries there are.
 pub fn entry_count(table: &[u64], h: Sizes) -> u64
     requires { ⌜ InRange h × (overCount (now table) ≤ 65536) ⌝ }
     ensures { λ n. ⌜ (n ≡ entries h (now (table .entry))) × (n ≤ 327680) ⌝ }
 {
-    h.d + element::at(table, 7)
+    h.d + head::over_count(table)
 }
 
 // The members of entry e.
@@ -72,6 +72,6 @@ pub fn clear_prefixes(h: Sizes, table: &mut [u64])
 pub fn mark(table: &mut [u64], mode: u64, total: u64)
     ensures { λ _. ⌜ now (table .exit) ≡ marked (now (table .entry)) mode total ⌝ }
 {
-    element::put(table, 8, total);
-    element::put(table, 6, mode);
+    head::put_total(table, total);
+    head::put_mode(table, mode);
 }

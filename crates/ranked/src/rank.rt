@@ -1,8 +1,8 @@
 // Ranks of a ranked set: `rank`, `rank_if_set`, `total_count`.
 ghost use mathlib.Core.Path.{_≡_};
 ghost use Prim.Native.Nat.{_^_, _≤_, _<_};
-ghost use lib.ListN.{getD};
 ghost use Rattle.layout.specs.Mem.{memOf};
+ghost use Rattle.layout.specs.Sizes.{headerAt};
 ghost use Rattle.layout.specs.Seat.{seatIn};
 ghost use Rattle.ranks.specs.Rank.{rankSeat, rankIfSeat, perhapsOf};
 ghost use Rattle.document.specs.Calls.{rank-of, rank-if, total-count, many, maybe};
@@ -12,10 +12,14 @@ use crate::mode;
 use crate::mode::Form;
 use document::answer::Amount;
 use document::answer::Perhaps;
+use document::answer::Truth;
+use document::refusal;
+use layout::find;
+use layout::head;
+use layout::part;
 use layout::seat;
 use layout::seat::Seat;
 use numbers::Split;
-use numbers::element;
 use numbers::id as ids;
 
 // Members below offset o of chunk c: one entry with its prefix, then the chunk itself.
@@ -28,11 +32,11 @@ fn rank_at(
     c: u64,
     o: u64,
 ) -> Amount
-    requires { ⌜ (9 ≤ s) × (s ≤ 25) × (s ≡ getD (now table) 0 0) × (c < 2 ^ 62) × (o < 2 ^ s) ⌝ }
+    requires { ⌜ (9 ≤ s) × (s ≤ 25) × (s ≡ headerAt (now table) .s) × (c < 2 ^ 62) × (o < 2 ^ s) ⌝ }
     ensures { λ r. ⌜ r ≡ rankSeat (memOf (pages .entry) (rows .entry) (blocks .entry) (table .entry)) o (seatIn (now (table .entry)) c) ⌝ }
 {
     match seat::seat_of(table, c) {
-        Seat::Bad => Amount::Refused(3),
+        Seat::Bad => Amount::Refused(refusal::NOT_LAID_OUT),
         Seat::At(w, before) => {
             chunk::after(before, chunk::below(pages, rows, blocks, table, s, w, o))
         }
@@ -59,16 +63,21 @@ fn rank_if_at(
     c: u64,
     o: u64,
 ) -> Perhaps
-    requires { ⌜ (9 ≤ s) × (s ≤ 25) × (s ≡ getD (now table) 0 0) × (c < 2 ^ 62) × (o < 2 ^ s) ⌝ }
+    requires { ⌜ (9 ≤ s) × (s ≤ 25) × (s ≡ headerAt (now table) .s) × (c < 2 ^ 62) × (o < 2 ^ s) ⌝ }
     ensures { λ r. ⌜ r ≡ rankIfSeat (memOf (pages .entry) (rows .entry) (blocks .entry) (table .entry)) o (seatIn (now (table .entry)) c) ⌝ }
 {
     match seat::seat_of(table, c) {
-        Seat::Bad => Perhaps::Refused(3),
+        Seat::Bad => Perhaps::Refused(refusal::NOT_LAID_OUT),
         Seat::At(w, before) => {
-            if !chunk::has(pages, rows, blocks, table, s, w, o) {
-                return Perhaps::Nothing;
+            match part::has(pages, rows, find::spot_of(pages, rows, table, w), o) {
+                Truth::Refused(n) => Perhaps::Refused(n),
+                Truth::Is(b) => {
+                    if !b {
+                        return Perhaps::Nothing;
+                    }
+                    perhaps(chunk::after(before, chunk::below(pages, rows, blocks, table, s, w, o)))
+                }
             }
-            perhaps(chunk::after(before, chunk::below(pages, rows, blocks, table, s, w, o)))
         }
     }
 }
@@ -78,10 +87,10 @@ pub fn rank(pages: &[u64], rows: &[u32], blocks: &[u32], table: &[u64], id: i64)
     ensures { λ r. ⌜ (let x = memOf (pages .entry) (rows .entry) (blocks .entry) (table .entry) in Answers x (rank-of id) (many r)) ⌝ }
 {
     match mode::form_in(table) {
-        Form::Bad => Amount::Refused(3),
-        Form::Open => Amount::Refused(5),
+        Form::Bad => Amount::Refused(refusal::NOT_LAID_OUT),
+        Form::Open => Amount::Refused(refusal::IS_OPEN),
         Form::Ranked => {
-            let s = element::at(table, 0);
+            let s = head::shift(table);
             match ids::split(id, s) {
                 Split::Negative => Amount::Of(0),
                 Split::At(c, o) => rank_at(pages, rows, blocks, table, s, c, o),
@@ -95,10 +104,10 @@ pub fn rank_if_set(pages: &[u64], rows: &[u32], blocks: &[u32], table: &[u64], i
     ensures { λ r. ⌜ (let x = memOf (pages .entry) (rows .entry) (blocks .entry) (table .entry) in Answers x (rank-if id) (maybe r)) ⌝ }
 {
     match mode::form_in(table) {
-        Form::Bad => Perhaps::Refused(3),
-        Form::Open => Perhaps::Refused(5),
+        Form::Bad => Perhaps::Refused(refusal::NOT_LAID_OUT),
+        Form::Open => Perhaps::Refused(refusal::IS_OPEN),
         Form::Ranked => {
-            let s = element::at(table, 0);
+            let s = head::shift(table);
             match ids::split(id, s) {
                 Split::Negative => Perhaps::Nothing,
                 Split::At(c, o) => rank_if_at(pages, rows, blocks, table, s, c, o),
@@ -112,8 +121,8 @@ pub fn total_count(pages: &[u64], rows: &[u32], blocks: &[u32], table: &[u64]) -
     ensures { λ r. ⌜ (let x = memOf (pages .entry) (rows .entry) (blocks .entry) (table .entry) in Answers x total-count (many r)) ⌝ }
 {
     match mode::form_in(table) {
-        Form::Bad => Amount::Refused(3),
-        Form::Open => Amount::Refused(5),
-        Form::Ranked => Amount::Of(element::at(table, 8)),
+        Form::Bad => Amount::Refused(refusal::NOT_LAID_OUT),
+        Form::Open => Amount::Refused(refusal::IS_OPEN),
+        Form::Ranked => Amount::Of(head::total(table)),
     }
 }

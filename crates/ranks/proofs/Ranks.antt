@@ -3,7 +3,6 @@ use mathlib.Core.Path.{_≡_, refl, sym, ap, ap₂, _∙_}
 use mathlib.Core.Bool.{Bool, true, false, cond}
 use Prim.Native.Nat.{ℕ, _+_, _/_, _%_, _<_}
 use native.Mathlib.Nat.{mod-lt}
-use lib.ListN.{getD}
 use lib.IntN.{ℤ, pos, negsuc}
 use lib.Pow.{pow-pos}
 use Rattle.sums.specs.Ids.{count, rank, rankIf, total}
@@ -11,10 +10,13 @@ use Rattle.sums.specs.Ids as ids
 use Rattle.numbers.specs.Ids.{splitOf}
 use Rattle.layout.specs.Mem.{Mem}
 use Rattle.document.specs.Sizes.{top}
-use Rattle.layout.specs.Sizes.{head}
+use Rattle.layout.specs.Sizes.{head, totalAt}
 use Rattle.layout.specs.Entries.{wordOf, placeOf}
 use Rattle.layout.specs.Meaning.{holds, ranked, stateOf}
 use Rattle.layout.specs.Follows.{Follows}
+use Rattle.document.specs.Refusals.{not-laid-out, is-open}
+use Rattle.document.specs.declared.answer.Truth.{Truth}
+use Rattle.document.specs.declared.answer.Truth.the-variants as truth
 use Rattle.document.specs.declared.answer.Amount.{Amount}
 use Rattle.document.specs.declared.answer.Amount.the-variants as amount
 use Rattle.document.specs.declared.answer.Perhaps.the-variants as perhaps
@@ -23,20 +25,21 @@ use Rattle.layout_laws.proofs.Walked.{laid-walked}
 use Rattle.layout_laws.proofs.Short.{owned-of, spot-is}
 use Rattle.layout_laws.proofs.Members.{listed-of, count-rank}
 use Rattle.layout_laws.proofs.Ranks.{first-rank, total-rank}
-use Rattle.calls.specs.Reading.{spotBy}
-use Rattle.ranks.specs.Rank.{belowAt, plus, rankSplit, ifRanked, rankBy, hasSpot, perhapsOf, rankIfSeat, rankIfSplit, rankIfBy, totalBy, rankIn}
+use Rattle.calls.specs.Reading.{spotBy, hasAt}
+use Rattle.calls.proofs.Readings.{has-at}
+use Rattle.ranks.specs.Rank.{belowAt, plus, rankSplit, ifRanked, rankBy, perhapsOf, ifThere, rankIfSeat, rankIfSplit, rankIfBy, totalBy, rankIn}
 use Rattle.document.specs.Answers.{perhapsRank, rankAnswer, rankIfAnswer, totalAnswer}
 use Rattle.ranks.proofs.Seats.{seat-is}
-use Rattle.ranks.proofs.Within.{below-is, has-is}
+use Rattle.ranks.proofs.Within.{below-is}
 use Rattle.ranks.proofs.AfterWalk.{tests-pass, seat-told, split-told}
 
 -- ---- tests before an answer
 
 module _ {x : Mem} (w : Follows x) where
-  pub if-ranked : {A : Type 0} (refuse : ℕ → A) (a b : A) → (ranked x ≡ true → a ≡ b) → ifRanked (x .table) refuse a ≡ cond (ranked x) b (refuse 5)
-  if-ranked {A} refuse a b h = ap (λ (t : Bool). cond t (cond (ranked x) a (refuse 5)) (refuse 3)) (tests-pass (laid-walked w)) ∙ go (ranked x) refl
+  pub if-ranked : {A : Type 0} (refuse : ℕ → A) (a b : A) → (ranked x ≡ true → a ≡ b) → ifRanked (x .table) refuse a ≡ cond (ranked x) b (refuse is-open)
+  if-ranked {A} refuse a b h = ap (λ (t : Bool). cond t (cond (ranked x) a (refuse is-open)) (refuse not-laid-out)) (tests-pass (laid-walked w)) ∙ go (ranked x) refl
     where
-      go : (t : Bool) → ranked x ≡ t → cond t a (refuse 5) ≡ cond t b (refuse 5)
+      go : (t : Bool) → ranked x ≡ t → cond t a (refuse is-open) ≡ cond t b (refuse is-open)
       go true e = h e
       go false e = refl
 
@@ -63,9 +66,9 @@ module _ {x : Mem} (w : Follows x) where
       rank-at : plus (firstRank x c) (belowAt x o (spotBy x (wordOf (head x) (x .table) c))) ≡ amount.Of (count (holds x) n)
       rank-at = seat-told (laid-walked w) r n ∙ ap amount.Of in-count
 
-      has-at : hasSpot x o (spotBy x (wordOf (head x) (x .table) c)) ≡ holds x n
+      has-here : hasAt x o (spotBy x (wordOf (head x) (x .table) c)) ≡ truth.Is (holds x n)
       unfolding holds
-      has-at = ap (hasSpot x o) (spot-is (laid-walked w) c) ∙ has-is x o (placeOf (head x) (x .table) c) (listed-of w c)
+      has-here = ap (hasAt x o) (spot-is (laid-walked w) c) ∙ has-at (head x) x (placeOf (head x) (x .table) c) o (listed-of w c)
 
       rank-id : rankSplit x (splitOf (head x .s) (pos n)) ≡ amount.Of (count (holds x) n)
       rank-id = split-told (laid-walked w) r n ∙ ap amount.Of in-count
@@ -78,7 +81,7 @@ module _ {x : Mem} (w : Follows x) where
       unfolding rankIf rank
       rank-if-id =
           ap (rankIfSeat x o) (seat-is (laid-walked w) c)
-          ∙ ap₂ (λ (b : Bool) (a : Amount). cond b (perhapsOf a) perhaps.Nothing) has-at rank-at
+          ∙ ap₂ (λ (b : Truth) (a : Amount). ifThere b (perhapsOf a)) has-here rank-at
           ∙ if-set (holds x n) (count (holds x) n)
 
     rank-split : (z : ℤ) → rankSplit x (splitOf (head x .s) z) ≡ amount.Of (rank (holds x) z)
@@ -106,4 +109,4 @@ module _ {x : Mem} (w : Follows x) where
 
   pub total-is : totalBy x ≡ totalAnswer (stateOf x)
   unfolding totalBy totalAnswer
-  total-is = if-ranked amount.Refused (amount.Of (getD (x .table) 8 0)) (amount.Of (total (holds x))) (λ r. ap amount.Of (total-rank w r))
+  total-is = if-ranked amount.Refused (amount.Of (totalAt (x .table))) (amount.Of (total (holds x))) (λ r. ap amount.Of (total-rank w r))

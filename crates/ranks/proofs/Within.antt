@@ -1,30 +1,26 @@
 -- Members of one chunk below an offset: by a search in its row, or by one block count and the words of one block. Assumes nothing.
 use mathlib.Core.Path.{_≡_, refl, ap, _∙_}
 use mathlib.Core.List.{List}
-use mathlib.Core.Bool.{Bool, true, false}
+use mathlib.Core.Bool.{true}
 use Prim.Native.Nat.{ℕ, _+_, _*_, _/_, _%_, _<_}
 use native.Mathlib.Omega.{arith}
 use lib.ListN.{take, drop}
-use Rattle.sparse.specs.Row.{rowOf, member, belowOf}
-use Rattle.sparse.specs.Search.{placeIf}
-use Rattle.sparse.proofs.Searches.{lower-rising, search-rising}
+use Rattle.sparse.proofs.Searches.{lower-rising}
 use Rattle.dense.specs.Bits.{bitsTo}
 use Rattle.dense.proofs.Parts.{bits-part}
 use Rattle.layout.specs.Mem.{Mem}
 use Rattle.document.specs.Sizes.{top}
 use Rattle.layout.specs.Sizes.{blocksOf, head}
 use Rattle.layout.specs.Places.{rowPart, pagePart}
-use Rattle.layout.specs.Meaning.{offsets, ranked}
+use Rattle.layout.specs.Meaning.{ranked}
 use Rattle.layout.specs.Follows.{Owned, RowListed, Follows}
 use Rattle.layout.specs.declared.place.Place.{Place}
 use Rattle.layout.specs.declared.place.Place.the-variants.{Absent, Sparse, Dense}
-use Rattle.layout.specs.Short.{spotOn}
 use Rattle.layout_laws.specs.Chunks as chunk
 use Rattle.layout_laws.proofs.Sizes.{blocks-top}
 use Rattle.layout_laws.proofs.Members.{listed-rising}
 use Rattle.layout_laws.proofs.Ranks.{block-rank}
-use Rattle.calls.specs.Reading.{isFound}
-use Rattle.ranks.specs.Rank.{hasSpot, belowPlace}
+use Rattle.ranks.specs.Rank.{belowPlace}
 
 -- below o: those before its block of eight words, and those within it
 pub block-split : (ws : List ℕ) (o : ℕ) → bitsTo ws (512 * (o / 512)) + bitsTo (take 8 (drop (o / 512 * 8) ws)) (o % 512) ≡ bitsTo ws o
@@ -36,10 +32,6 @@ block-split ws o =
     let r = ap (bitsTo ws) f in
     omega arith
 
-found-if : (b : Bool) (i : ℕ) → isFound (placeIf b i) ≡ b
-found-if true i = refl
-found-if false i = refl
-
 module _ {x : Mem} (w : Follows x) (r : ranked x ≡ true) (o : ℕ) (l : o < top (head x)) where
   pub below-is : (c : ℕ) (p : Place) → Owned (head x) (x .table) c p → RowListed (head x) (x .rows) p → belowPlace x o p ≡ chunk.belowIn (head x) x p o
   below-is c Absent u v = refl
@@ -49,11 +41,3 @@ module _ {x : Mem} (w : Follows x) (r : ranked x ≡ true) (o : ℕ) (l : o < to
       let n : o / 512 < blocksOf (head x) = omega arith in
       let block = bitsTo (take 8 (drop (o / 512 * 8) (pagePart (head x) (x .pages) p))) (o % 512) in
       ap (λ (k : ℕ). k + block) (block-rank w r p (o / 512) (u .there) n) ∙ block-split (pagePart (head x) (x .pages) p) o
-
--- whether an offset is there
-pub has-is : (x : Mem) (o : ℕ) (p : Place) → RowListed (head x) (x .rows) p → hasSpot x o (spotOn (head x) p) ≡ offsets (head x) x p o
-has-is x o Absent v = refl
-has-is x o (Sparse i n) v =
-    let up = listed-rising (head x) (rowPart (head x) (x .rows) i) n v in
-    ap isFound (search-rising (rowPart (head x) (x .rows) i) n up o) ∙ found-if (member (rowOf (rowPart (head x) (x .rows) i)) n o) (belowOf (rowOf (rowPart (head x) (x .rows) i)) n o)
-has-is x o (Dense p) v = refl

@@ -1,7 +1,7 @@
 -- `into_ranked` and leaving the ranked form on any memory: a walk, then folds over entries and pages.
 use Prim.Native.Nat.{ℕ, zero, suc, _+_, _*_}
-use mathlib.Core.List.{List, [], _∷_, _++_}
-use mathlib.Core.Bool.{Bool, cond}
+use mathlib.Core.List.{List}
+use mathlib.Core.Bool.{cond}
 use lib.ListN.{set}
 use lib.Dec.{eqb}
 use Rattle.sums.specs.Sums.{sumTo}
@@ -13,6 +13,8 @@ use Rattle.layout.specs.Entries.{entries, prefixPlace}
 use Rattle.layout.specs.Follows.{membersAt}
 use Rattle.layout.specs.Tests.{walked}
 use Rattle.layout.specs.SetUp.{Did, did, zeroed}
+use Rattle.layout.specs.Writes.{putMode, putTotal}
+use Rattle.document.specs.Refusals.{not-laid-out, is-ranked, is-open}
 use Rattle.document.specs.declared.sizes.Sizes.{Sizes}
 use Rattle.document.specs.declared.answer.Outcome.the-variants.{Done, Refused}
 
@@ -21,9 +23,9 @@ unfoldable pub prefixed : Sizes → List ℕ → (ℕ → ℕ) → ℕ → List 
 prefixed h t f zero = t
 prefixed h t f (suc e) = set (prefixed h t f e) (prefixPlace h e) (f e)
 
--- header words 6 and 8
+-- the mode and the members in all
 abbrev pub marked : List ℕ → ℕ → ℕ → List ℕ
-marked t mode total = set (set t 8 total) 6 mode
+marked t mode total = putMode (putTotal t total) mode
 
 -- the counts of blocks 0 to n - 1 of page p, written from its place on
 unfoldable pub blocked : Sizes → List ℕ → List ℕ → ℕ → ℕ → List ℕ
@@ -47,8 +49,8 @@ toOpen h x =
 
 -- 3, then 4
 unfoldable pub rankUpBy : Mem → Did
-rankUpBy x = cond (walked x) (cond (eqb (modeAt (x .table)) 1) (did (Refused 4) x) (did Done (toRanked (head x) x))) (did (Refused 3) x)
+rankUpBy x = cond (walked x) (cond (eqb (modeAt (x .table)) 1) (did (Refused is-ranked) x) (did Done (toRanked (head x) x))) (did (Refused not-laid-out) x)
 
 -- 3, then 5
 unfoldable pub openBy : Mem → Did
-openBy x = cond (walked x) (cond (eqb (modeAt (x .table)) 1) (did Done (toOpen (head x) x)) (did (Refused 5) x)) (did (Refused 3) x)
+openBy x = cond (walked x) (cond (eqb (modeAt (x .table)) 1) (did Done (toOpen (head x) x)) (did (Refused is-open) x)) (did (Refused not-laid-out) x)

@@ -1,200 +1,85 @@
-// Replays calls: one a line from standard input, one answer a line to standard output. Two sets, with pools of their own.
+// Replays calls: one a line from standard input, one answer a line to standard output (docs/REPLAY.md).
+// Pools go by the letters that `dump` shows: p pages, r rows, b block counts, t table, c boundaries.
+mod call;
 mod input;
 mod memory;
-mod perform;
-mod pure;
+mod partition;
 mod say;
+mod verb;
 
-ghost use Prim.Native.Nat.{_<_};
-use input::Reading;
-use lines::words;
+ghost use mathlib.Core.Path.{_≡_};
+ghost use lib.ListN.{length};
 
-// A line, on the set that it names, if it names one.
-fn obey(
+// A line on the set that these slices hold.
+fn on(
+    v: u64,
     line: &[u8],
-    out: &mut [u8],
-    w: usize,
-    pages: &mut [u64],
-    rows: &mut [u32],
-    blocks: &mut [u32],
-    table: &mut [u64],
-    bounds: &mut [i64],
-    pages1: &mut [u64],
-    rows1: &mut [u32],
-    blocks1: &mut [u32],
-    table1: &mut [u64],
-    bounds1: &mut [i64],
-) -> usize {
-    if pure::names(line) {
-        return pure::call(line, out, w);
-    }
-    match words::number_or(line, 1, 2) {
-        0 => perform::call(line, out, w, pages, rows, blocks, table, bounds),
-        1 => perform::call(line, out, w, pages1, rows1, blocks1, table1, bounds1),
-        _ => say::bad(out, w),
+    p: &mut [u64],
+    r: &mut [u32],
+    b: &mut [u32],
+    t: &mut [u64],
+    c: &mut [i64],
+) {
+    match v {
+        0..=7 => say::answer(v, call::changes(v, line, p, r, b, t)),
+        19 => partition::plan(line, p, r, b, t, c),
+        _ => call::reads(v, line, p, r, b, t, c),
     }
 }
 
-// A line that has ended, with the n bytes that are kept of it, or one too long.
-fn ended(
-    text: &[u8],
-    n: usize,
-    out: &mut [u8],
-    w: usize,
-    pages: &mut [u64],
-    rows: &mut [u32],
-    blocks: &mut [u32],
-    table: &mut [u64],
-    bounds: &mut [i64],
-    pages1: &mut [u64],
-    rows1: &mut [u32],
-    blocks1: &mut [u32],
-    table1: &mut [u64],
-    bounds1: &mut [i64],
-) -> usize {
-    if text.len() < n {
-        return say::bad(out, w);
-    }
-    obey(
-        &text[0..n],
-        out,
-        w,
-        pages,
-        rows,
-        blocks,
-        table,
-        bounds,
-        pages1,
-        rows1,
-        blocks1,
-        table1,
-        bounds1,
-    )
-}
-
-// The line, if there is one whole.
-fn answer(
-    text: &[u8],
-    r: Reading,
-    out: &mut [u8],
-    pages: &mut [u64],
-    rows: &mut [u32],
-    blocks: &mut [u32],
-    table: &mut [u64],
-    bounds: &mut [i64],
-    pages1: &mut [u64],
-    rows1: &mut [u32],
-    blocks1: &mut [u32],
-    table1: &mut [u64],
-    bounds1: &mut [i64],
-) -> Reading {
-    if !r.whole {
-        return r;
-    }
-    Reading {
-        at: r.at,
-        end: r.end,
-        n: r.n,
-        w: ended(
-            text,
-            r.n,
-            out,
-            r.w,
-            pages,
-            rows,
-            blocks,
-            table,
-            bounds,
-            pages1,
-            rows1,
-            blocks1,
-            table1,
-            bounds1,
-        ),
-        whole: true,
-        over: r.over,
-    }
-}
-
-// The turns left after one more: none where the input has ended.
-fn left(over: bool, turns: u64) -> u64
-    requires { ⌜ 0 < turns ⌝ }
-    ensures { λ r. ⌜ r < turns ⌝ }
+// A line, on the half of each pool that it names.
+fn answer(line: &[u8], p: &mut [u64], r: &mut [u32], b: &mut [u32], t: &mut [u64], c: &mut [i64])
+    requires { ⌜ (length (now p) ≡ 16384) × (length (now r) ≡ 8192) × (length (now b) ≡ 2048) × (length (now t) ≡ 2048) × (length (now c) ≡ 512) ⌝ }
 {
-    if over {
-        return 0;
-    }
-    turns - 1
+    let k = verb::up_to(line, 1, 1);
+    on(
+        verb::of(line),
+        line,
+        &mut p[8192 * k..8192 * k + 8192],
+        &mut r[4096 * k..4096 * k + 4096],
+        &mut b[1024 * k..1024 * k + 1024],
+        &mut t[1024 * k..1024 * k + 1024],
+        &mut c[256 * k..256 * k + 256],
+    );
 }
 
 // All of the input. A proved loop has to end, so turns are counted down from a number that no run uses up.
 fn run(
-    input: &mut [u8],
-    text: &mut [u8],
-    out: &mut [u8],
-    pages: &mut [u64],
-    rows: &mut [u32],
-    blocks: &mut [u32],
-    table: &mut [u64],
-    bounds: &mut [i64],
-    pages1: &mut [u64],
-    rows1: &mut [u32],
-    blocks1: &mut [u32],
-    table1: &mut [u64],
-    bounds1: &mut [i64],
+    bytes: &mut [u8; 65536],
+    text: &mut [u8; 400],
+    p: &mut [u64; 16384],
+    r: &mut [u32; 8192],
+    b: &mut [u32; 2048],
+    t: &mut [u64; 2048],
+    c: &mut [i64; 512],
 ) {
-    let mut r = input::begin();
+    let mut now = input::stand(0, 0, 0, false);
     let mut turns = u64::MAX;
     while 0 < turns {
-        r = input::advance(input, text, out, r);
-        r = answer(
-            text,
-            r,
-            out,
-            pages,
-            rows,
-            blocks,
-            table,
-            bounds,
-            pages1,
-            rows1,
-            blocks1,
-            table1,
-            bounds1,
-        );
-        turns = left(r.over, turns);
+        now = input::step(bytes, text, now);
+        if now.whole {
+            answer(input::line(text, now.n), p, r, b, t, c);
+        }
+        turns = if now.end == 0 { 0 } else { turns - 1 };
     }
-    say::flush(out, r.w);
 }
 
-// What is read, the longest line, what waits to be written, and the pools of both sets.
+// Two sets: of each array the first half is the first one's.
 fn main() {
-    let mut input = io::large_buffer();
+    let mut bytes = [0u8; 65536];
     let mut text = [0u8; 400];
-    let mut out = io::large_buffer();
-    let mut pages = [0u64; 8192];
-    let mut rows = [0u32; 4096];
-    let mut blocks = [0u32; 1024];
-    let mut table = [0u64; 1024];
-    let mut bounds = [0i64; 256];
-    let mut pages1 = [0u64; 8192];
-    let mut rows1 = [0u32; 4096];
-    let mut blocks1 = [0u32; 1024];
-    let mut table1 = [0u64; 1024];
-    let mut bounds1 = [0i64; 256];
+    let mut p = [0u64; 16384];
+    let mut r = [0u32; 8192];
+    let mut b = [0u32; 2048];
+    let mut t = [0u64; 2048];
+    let mut c = [0i64; 512];
     run(
-        &mut input,
+        &mut bytes,
         &mut text,
-        &mut out,
-        &mut pages,
-        &mut rows,
-        &mut blocks,
-        &mut table,
-        &mut bounds,
-        &mut pages1,
-        &mut rows1,
-        &mut blocks1,
-        &mut table1,
-        &mut bounds1,
+        &mut p,
+        &mut r,
+        &mut b,
+        &mut t,
+        &mut c,
     );
 }

@@ -1,118 +1,96 @@
 // The elements of a set's pools, one by one: to make memory that no call made, and to see what calls left.
 use crate::say;
+use codes::answer::Answer;
+use lines::signs;
 use lines::words;
-use numbers::order;
-use numbers::place;
 
-// 2 ^ 32 - 1
-const MOST: u64 = 4294967295;
-
-// One element of 64 bits.
-fn put(out: &mut [u8], w: usize, pool: &mut [u64], i: u64, v: u64) -> usize {
-    if (pool.len() as u64) <= i {
-        return say::bad(out, w);
+// One element of 64 bits. Answers 0, or 3 past the pool.
+fn put(pool: &mut [u64], i: usize, v: u64) -> u64 {
+    if i < pool.len() {
+        pool[i] = v;
+        return 0;
     }
-    place::put(pool, i, v);
-    say::ok(out, w)
+    3
 }
 
-// One element of 32 bits.
-fn put32(out: &mut [u8], w: usize, pool: &mut [u32], i: u64, v: u64) -> usize {
-    if (pool.len() as u64) <= i {
-        return say::bad(out, w);
+// One element of 32 bits. Answers 0, or 3 past the pool or where the value is too large.
+fn put32(pool: &mut [u32], i: usize, v: u64) -> u64 {
+    if i < pool.len() {
+        if v < 4294967296 {
+            pool[i] = v as u32;
+            return 0;
+        }
     }
-    if MOST < v {
-        return say::bad(out, w);
-    }
-    place::put32(pool, i, v as u32);
-    say::ok(out, w)
+    3
 }
 
 // `poke K slice index value`
-pub fn poke(
-    line: &[u8],
-    out: &mut [u8],
-    w: usize,
-    pages: &mut [u64],
-    rows: &mut [u32],
-    blocks: &mut [u32],
-    table: &mut [u64],
-) -> usize {
-    if !words::are_numbers(line, 2, 5) {
-        return say::bad(out, w);
-    }
-    let i = words::number_or(line, 3, 0);
+pub fn poke(line: &[u8], p: &mut [u64], r: &mut [u32], b: &mut [u32], t: &mut [u64]) -> Answer {
+    let i = words::number_or(line, 3, 0) as usize;
     let v = words::number_or(line, 4, 0);
-    match words::number_or(line, 2, 0) {
-        0 => put(out, w, pages, i, v),
-        1 => put32(out, w, rows, i, v),
-        2 => put32(out, w, blocks, i, v),
-        3 => put(out, w, table, i, v),
-        _ => say::bad(out, w),
-    }
+    let kind = match words::number_or(line, 2, 0) {
+        0 => put(p, i, v),
+        1 => put32(r, i, v),
+        2 => put32(b, i, v),
+        3 => put(t, i, v),
+        _ => 3,
+    };
+    Answer { kind, value: 0 }
 }
 
-// How much of a dump is shown: how many bytes wait, and whether its line has an element yet.
-struct Shown {
-    w: usize,
-    empty: bool,
-}
-
-// What stands before an element: a space, unless it is the line's first.
-fn before(out: &mut [u8], d: Shown) -> usize {
-    if d.empty {
-        return d.w;
-    }
-    say::text(out, d.w, b" ")
-}
-
-// An element that is not 0.
-fn element(out: &mut [u8], d: Shown, letter: u8, i: usize, v: u64) -> Shown {
+// An element that is not 0, as `p7=12`; a space before it if there are some already. Answers whether there are now.
+fn element(some: bool, name: u8, i: usize, minus: bool, v: u64) -> bool {
     if v == 0 {
-        return d;
+        return some;
     }
-    let a = before(out, d);
-    let b = say::text(out, a, &[letter]);
-    let c = say::number(out, b, i as u64);
-    let e = say::text(out, c, b"=");
-    Shown {
-        w: say::number(out, e, v),
-        empty: false,
+    if some {
+        say::text(b" ");
     }
+    say::number(&[name], i as u64);
+    if minus {
+        say::number(b"=-", v);
+    } else {
+        say::number(b"=", v);
+    }
+    true
 }
 
-fn elements(out: &mut [u8], d: Shown, letter: u8, pool: &[u64]) -> Shown {
-    let mut now = d;
+fn elements(some: bool, name: u8, pool: &[u64]) -> bool {
+    let mut now = some;
     let mut i: usize = 0;
     while i < pool.len() {
-        now = element(out, now, letter, i, pool[i]);
+        now = element(now, name, i, false, pool[i]);
         i += 1;
     }
     now
 }
 
-fn elements32(out: &mut [u8], d: Shown, letter: u8, pool: &[u32]) -> Shown {
-    let mut now = d;
+fn elements32(some: bool, name: u8, pool: &[u32]) -> bool {
+    let mut now = some;
     let mut i: usize = 0;
     while i < pool.len() {
-        now = element(out, now, letter, i, order::wide(pool[i]));
+        now = element(now, name, i, false, pool[i] as u64);
         i += 1;
     }
     now
+}
+
+fn boundaries(some: bool, c: &[i64]) {
+    let mut now = some;
+    let mut i: usize = 0;
+    while i < c.len() {
+        let z = c[i];
+        now = element(now, b'c', i, z < 0, signs::magnitude(z));
+        i += 1;
+    }
 }
 
 // `dump K`
-pub fn dump(
-    out: &mut [u8],
-    w: usize,
-    pages: &[u64],
-    rows: &[u32],
-    blocks: &[u32],
-    table: &[u64],
-) -> usize {
-    let a = elements(out, Shown { w, empty: true }, b'p', pages);
-    let b = elements32(out, a, b'r', rows);
-    let c = elements32(out, b, b'b', blocks);
-    let d = elements(out, c, b't', table);
-    say::newline(out, d.w)
+pub fn dump(p: &[u64], r: &[u32], b: &[u32], t: &[u64], c: &[i64]) {
+    let x = elements(false, b'p', p);
+    let y = elements32(x, b'r', r);
+    let z = elements32(y, b'b', b);
+    let w = elements(z, b't', t);
+    boundaries(w, c);
+    say::text(b"\n");
 }

@@ -9,15 +9,9 @@ use Rattle.sparse.specs.Edit.{cleared}
 use Rattle.layout.specs.Places.{rowPart}
 use Rattle.document.specs.declared.sizes.Sizes.{Sizes}
 use Rattle.layout.specs.Writes.{putPart, putRow}
+use Rattle.layout.proofs.Lent.{span}
 
-pub span : (a n : ℕ) → a + n - a ≡ n
-span a n = omega arith
-
--- the n elements from i on, as they are lent
-pub length-lent : (xs : List ℕ) (i n : ℕ) → i + n ≤ length xs → length (take (i + n - i) (drop i xs)) ≡ n
-length-lent xs i n l = simp (length-take, length-drop) (omega arith)
-
--- f applied to them, where start and width were computed
+-- f applied to the n elements from i on, where start and width were computed
 pub put-lent : (xs : List ℕ) (i k a n : ℕ) → i ≡ a → k ≡ n → (f : List ℕ → List ℕ) (ys : List ℕ) → ys ≡ f (take (i + k - i) (drop i xs)) → take i xs ++ (ys ++ drop (i + k - i) (drop i xs)) ≡ putPart xs a n (f (take n (drop a xs)))
 unfolding putPart
 put-lent xs i k a n p q f ys e =

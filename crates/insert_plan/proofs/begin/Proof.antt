@@ -21,20 +21,20 @@ head-is-requires c κs = search needs
 returns : tie.Need-returns
 returns c = begin-bad (memory (c .before .before .before .before .before .before .before)) _ (c .before .before .read .ensures) _ (c .before .head-is .ensures) (c .before .before .before .before .before .before .before .args .c) (c .if1 .taken)
 
-at-requires : tie.Need-at-requires
-at-requires c κs = search needs
+over-count-requires : tie.Need-over-count-requires
+over-count-requires c κs = search needs
 
 returns-2 : tie.Need-returns-2
-returns-2 c = begin-six (memory (c .before .before .before .before .before .before .before .before .before .before .before)) _ (c .before .before .before .before .before .before .read .ensures) _ (c .before .before .before .before .before .head-is .ensures) (c .before .before .before .before .before .before .before .before .before .before .before .args .c) (c .before .before .before .before .if1 .left) _ (c .before .before .before .at .ensures) (c .if2 .taken)
+returns-2 c = begin-six (memory (c .before .before .before .before .before .before .before .before .before .before .before)) _ (c .before .before .before .before .before .before .read .ensures) _ (c .before .before .before .before .before .head-is .ensures) (c .before .before .before .before .before .before .before .before .before .before .before .args .c) (c .before .before .before .before .if1 .left) _ (c .before .before .before .over-count .ensures) (c .if2 .taken)
 
 free-row-requires : tie.Need-free-row-requires
 free-row-requires c κs = good (c .before .before .before .before) .sizes
 
 returns-3 : tie.Need-returns-3
-returns-3 c = begin-row (memory (c .before .before .before .before .before .before .before .before .before .before .before .before .before .before)) _ (c .before .before .before .before .before .before .before .before .before .read .ensures) _ (c .before .before .before .before .before .before .before .before .head-is .ensures) (c .before .before .before .before .before .before .before .before .before .before .before .before .before .before .args .c) (c .before .before .before .before .before .before .before .if1 .left) _ (c .before .before .before .before .before .before .at .ensures) (c .before .before .before .if2 .left) _ (c .before .before .free-row .ensures) (c .if3 .taken)
+returns-3 c = begin-row (memory (c .before .before .before .before .before .before .before .before .before .before .before .before .before .before)) _ (c .before .before .before .before .before .before .before .before .before .read .ensures) _ (c .before .before .before .before .before .before .before .before .head-is .ensures) (c .before .before .before .before .before .before .before .before .before .before .before .before .before .before .args .c) (c .before .before .before .before .before .before .before .if1 .left) _ (c .before .before .before .before .before .before .over-count .ensures) (c .before .before .before .if2 .left) _ (c .before .before .free-row .ensures) (c .if3 .taken)
 
 returns-4 : tie.Need-returns-4
-returns-4 c = begin-seven (memory (c .before .before .before .before .before .before .before .before .before .before .before .before .before .before)) _ (c .before .before .before .before .before .before .before .before .before .read .ensures) _ (c .before .before .before .before .before .before .before .before .head-is .ensures) (c .before .before .before .before .before .before .before .before .before .before .before .before .before .before .args .c) (c .before .before .before .before .before .before .before .if1 .left) _ (c .before .before .before .before .before .before .at .ensures) (c .before .before .before .if2 .left) _ (c .before .before .free-row .ensures) (c .if3 .left)
+returns-4 c = begin-seven (memory (c .before .before .before .before .before .before .before .before .before .before .before .before .before .before)) _ (c .before .before .before .before .before .before .before .before .before .read .ensures) _ (c .before .before .before .before .before .before .before .before .head-is .ensures) (c .before .before .before .before .before .before .before .before .before .before .before .before .before .before .args .c) (c .before .before .before .before .before .before .before .if1 .left) _ (c .before .before .before .before .before .before .over-count .ensures) (c .before .before .before .if2 .left) _ (c .before .before .free-row .ensures) (c .if3 .left)
 
 pub begin-spec : {M : Type 1} → statement M
 begin-spec =
@@ -43,7 +43,7 @@ begin-spec =
     read-requires
     head-is-requires
     returns
-    at-requires
+    over-count-requires
     returns-2
     free-row-requires
     returns-3

@@ -16,11 +16,11 @@ module _ (c : tie.After-times) where
   abbrev memory : Mem
   memory = memOf (start .args .pages) (start .args .rows) (start .args .blocks) (start .args .table)
 
-  inside : c .times .result + c .before .at .result ≤ length (memory .rows)
-  inside = row-inside (start .args .r) (head memory .m) _ _ _ (start .pre .0 .fits) (c .before .at .ensures) (c .times .ensures)
+  inside : c .times .result + c .before .row-size .result ≤ length (memory .rows)
+  inside = row-inside (start .args .r) (head memory .m) _ _ _ (start .pre .0 .fits) (c .before .row-size .ensures) (c .times .ensures)
 
-at-requires : tie.Need-at-requires
-at-requires c κs = search needs
+row-size-requires : tie.Need-row-size-requires
+row-size-requires c κs = search needs
 
 times-requires : tie.Need-times-requires
 times-requires c κs = search needs
@@ -59,7 +59,7 @@ returns : tie.Need-returns
 returns c =
     let k = c .before .before .before .before .before .before in
     let a = start k .args in
-    row-enter (memory k) (a .r) (a .l) (a .o) _ _ (k .before .at .ensures) (k .times .ensures) _
+    row-enter (memory k) (a .r) (a .l) (a .o) _ _ (k .before .row-size .ensures) (k .times .ensures) _
     (c .before .before .before .before .spot .ensures) _ (c .before .before .k .given .1) (omega (arith, c .if1 .taken))
 
 turn-requires : tie.Need-turn-requires
@@ -69,14 +69,14 @@ returns-2 : tie.Need-returns-2
 returns-2 c =
     let k = c .before .before .before .before in
     let a = start k .args in
-    row-known (memory k) (a .r) (a .l) (a .o) _ _ (k .before .at .ensures) (k .times .ensures) _ (c .before .before .spot .ensures) _
+    row-known (memory k) (a .r) (a .l) (a .o) _ _ (k .before .row-size .ensures) (k .times .ensures) _ (c .before .before .spot .ensures) _
     (c .enum-told .given .1)
 
 returns-3 : tie.Need-returns-3
 returns-3 c =
     let k = c .before .before .before .before .before .before .before in
     let a = start k .args in
-    row-turn (memory k) (a .r) (a .l) (a .o) _ _ (k .before .at .ensures) (k .times .ensures) _
+    row-turn (memory k) (a .r) (a .l) (a .o) _ _ (k .before .row-size .ensures) (k .times .ensures) _
     (c .before .before .before .before .before .spot .ensures) _ (c .before .before .before .k .given .1)
     (omega (arith, c .before .if1 .left)) _ (c .turn .ensures)
 
@@ -84,7 +84,7 @@ pub row-spec : {M : Type 1} → statement M
 row-spec =
     tie.close
     (tie.spec
-    at-requires
+    row-size-requires
     times-requires
     add-e
     mul-spot

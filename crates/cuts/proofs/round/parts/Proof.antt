@@ -5,7 +5,7 @@ use Rattle.cuts.proofs.round.parts.Statement.{statement}
 use Rattle.cuts.proofs.round.parts.Tie as tie
 
 returns : tie.Need-returns
-returns c = parts-none _ (c .before .args .s) (c .if1 .taken)
+returns c = parts-none _ (c .before .args .slots) (c .if1 .taken)
 
 sub-result : tie.Need-sub-result
 sub-result c = search needs
@@ -20,7 +20,7 @@ add-result : tie.Need-add-result
 add-result c = parts-fits _ _ (c .before .if1 .left) (c .before .before .fits .t .fits)
 
 returns-2 : tie.Need-returns-2
-returns-2 c = parts-some _ (c .before .before .args .s) _ (c .before .if1 .left) (c .greatest-of .ensures)
+returns-2 c = parts-some _ (c .before .before .args .slots) _ (c .before .if1 .left) (c .greatest-of .ensures)
 
 pub parts-spec : {M : Type 1} → statement M
 parts-spec =

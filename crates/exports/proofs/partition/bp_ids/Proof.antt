@@ -2,7 +2,7 @@
 use mathlib.Core.Path.{_∙_, ap}
 use Rattle.document.specs.Spans.{idsAnswer}
 use Rattle.document.specs.declared.plan.Plan.{Plan}
-use Rattle.exports.specs.Codes.{spannedCode}
+use Rattle.codes.specs.Codes.{spannedCode}
 use borrow.Author.Needs.{needs}
 use Rattle.exports.proofs.partition.bp_ids.Statement.{statement}
 use Rattle.exports.proofs.partition.bp_ids.Tie as tie

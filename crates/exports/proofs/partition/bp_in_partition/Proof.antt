@@ -4,7 +4,7 @@ use lib.IntN.{ℤ}
 use mir.Facts.{toZ-ofZ}
 use Rattle.document.specs.Spans.{inPartition}
 use Rattle.document.specs.declared.plan.Span.{Span}
-use Rattle.exports.proofs.Codes.{span-read}
+use Rattle.codes.proofs.Codes.{span-read}
 use borrow.Author.Needs.{needs}
 use Rattle.exports.proofs.partition.bp_in_partition.Statement.{statement}
 use Rattle.exports.proofs.partition.bp_in_partition.Tie as tie

@@ -2,7 +2,7 @@
 use mathlib.Core.Path.{_∙_, ap, ap₂}
 use mir.Facts.{toZ-ofZ}
 use Rattle.document.specs.Spans.{rangeMeets}
-use Rattle.exports.proofs.Codes.{span-read}
+use Rattle.codes.proofs.Codes.{span-read}
 use borrow.Author.Needs.{needs}
 use Rattle.exports.proofs.partition.bp_range_meets.Statement.{statement}
 use Rattle.exports.proofs.partition.bp_range_meets.Tie as tie

@@ -2,7 +2,7 @@
 use mathlib.Core.Path.{_∙_, ap}
 use Rattle.document.specs.Spans.{ranksAnswer}
 use Rattle.document.specs.declared.plan.Plan.{Plan}
-use Rattle.exports.specs.Codes.{ranksCode}
+use Rattle.codes.specs.Codes.{ranksCode}
 use borrow.Author.Needs.{needs}
 use Rattle.exports.proofs.partition.bp_ranks.Statement.{statement}
 use Rattle.exports.proofs.partition.bp_ranks.Tie as tie

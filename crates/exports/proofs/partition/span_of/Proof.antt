@@ -3,7 +3,7 @@ use mathlib.Core.Path.{_∙_, ap, ap₂, sym}
 use mathlib.Core.Bool.{Bool}
 use mir.Facts.{toZ-ofZ}
 use Rattle.document.specs.declared.plan.Span.the-variants.{Between, From}
-use Rattle.exports.specs.Codes.{spanIn}
+use Rattle.codes.specs.Codes.{spanIn}
 use Rattle.exports.proofs.partition.span_of.Statement.{statement}
 use Rattle.exports.proofs.partition.span_of.Tie as tie
 

@@ -4,8 +4,8 @@ use lib.IntN.{ℤ}
 use Rattle.document.specs.Calls.{get, whether}
 use Rattle.document.specs.declared.answer.Truth.{Truth}
 use Rattle.contracts.specs.Does.{Answers}
-use Rattle.exports.specs.Codes.{truthCode}
-use Rattle.exports.proofs.Codes.{coded-at}
+use Rattle.codes.specs.Codes.{truthCode}
+use Rattle.codes.proofs.Codes.{coded-at}
 use borrow.Author.Needs.{needs}
 use Rattle.exports.proofs.read.bp_get.Statement.{statement}
 use Rattle.exports.proofs.read.bp_get.Tie as tie

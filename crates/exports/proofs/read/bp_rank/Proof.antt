@@ -4,8 +4,8 @@ use lib.IntN.{ℤ}
 use Rattle.document.specs.Calls.{rank-of, many}
 use Rattle.document.specs.declared.answer.Amount.{Amount}
 use Rattle.contracts.specs.Does.{Answers}
-use Rattle.exports.specs.Codes.{amountCode}
-use Rattle.exports.proofs.Codes.{coded-at}
+use Rattle.codes.specs.Codes.{amountCode}
+use Rattle.codes.proofs.Codes.{coded-at}
 use borrow.Author.Needs.{needs}
 use Rattle.exports.proofs.read.bp_rank.Statement.{statement}
 use Rattle.exports.proofs.read.bp_rank.Tie as tie

@@ -16,8 +16,8 @@ Inv-loop pages blocks table h ranked n ok₀ p₀ ok p = (p ≤ n) × (ok ≡ al
 abbrev μ-loop : tie.MeasureT-loop
 μ-loop pages blocks table h ranked n ok₀ p₀ ok p = n - p
 
-at-requires : tie.Need-at-requires Inv-loop μ-loop
-at-requires c κs = search needs
+mode-requires : tie.Need-mode-requires Inv-loop μ-loop
+mode-requires c κs = search needs
 
 loop-holds : tie.Need-loop-holds Inv-loop μ-loop
 loop-holds c = (omega arith, all-none _)
@@ -35,7 +35,7 @@ loop-again : tie.Need-loop-again Inv-loop μ-loop
 loop-again c = let l = c .before .before .loop in (omega arith, all-more _ (l .p) _ _ (l .inv .1) (c .blocks-in .ensures))
 
 returns : tie.Need-returns Inv-loop μ-loop
-returns c = let l = c .before .loop in let a = c .before .before .before .before .before .before .args in all-end _ (l .p) (a .h .p) _ (l .inv .1) (omega arith) (omega arith) ∙ ap (λ (w : ℕ). allTo (pageBlocks (a .h) (a .pages .now) (a .blocks .now) (eqb w 1)) (a .h .p)) (c .before .before .at .ensures)
+returns c = let l = c .before .loop in let a = c .before .before .before .before .before .before .args in all-end _ (l .p) (a .h .p) _ (l .inv .1) (omega arith) (omega arith) ∙ ap (λ (w : ℕ). allTo (pageBlocks (a .h) (a .pages .now) (a .blocks .now) (eqb w 1)) (a .h .p)) (c .before .before .mode .ensures)
 
 pub blocks-are-spec : {M : Type 1} → statement M
 blocks-are-spec =
@@ -43,7 +43,7 @@ blocks-are-spec =
     (tie.spec
     Inv-loop
     μ-loop
-    at-requires
+    mode-requires
     loop-holds
     blocks-in-requires
     add-p

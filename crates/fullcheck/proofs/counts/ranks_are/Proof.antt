@@ -18,26 +18,26 @@ Inv-loop pages table h ranked n ok₀ sum₀ e₀ ok sum e = (e ≤ n) × (sum �
 abbrev μ-loop : tie.MeasureT-loop
 μ-loop pages table h ranked n ok₀ sum₀ e₀ ok sum e = n - e
 
-at-requires : tie.Need-at-requires Inv-loop μ-loop
-at-requires c κs = search needs
+mode-requires : tie.Need-mode-requires Inv-loop μ-loop
+mode-requires c κs = search needs
 
-at-requires-2 : tie.Need-at-requires-2 Inv-loop μ-loop
-at-requires-2 c κs = search needs
+over-count-requires : tie.Need-over-count-requires Inv-loop μ-loop
+over-count-requires c κs = search needs
 
 add-n : tie.Need-add-n Inv-loop μ-loop
-add-n c = omega (arith, c .before .before .before .before .before .pre .0, c .before .at2 .ensures)
+add-n c = omega (arith, c .before .before .before .before .before .pre .0, c .before .over-count .ensures)
 
 loop-holds : tie.Need-loop-holds Inv-loop μ-loop
-loop-holds c = let q = c .before .before .before .before .before .args in (omega arith, omega arith, size-none (q .h) (q .pages .now) (q .table .now) (eqb (c .before .before .at .result) 1), all-none _)
+loop-holds c = let q = c .before .before .before .before .before .args in (omega arith, omega arith, size-none (q .h) (q .pages .now) (q .table .now) (eqb (c .before .before .mode .result) 1), all-none _)
 
 prefix-at-requires : tie.Need-prefix-at-requires Inv-loop μ-loop
-prefix-at-requires c κs = (c .before .before .before .before .before .before .before .pre .0 .sizes, omega (arith, c .before .before .before .before .before .before .before .pre .0, c .before .before .before .at2 .ensures))
+prefix-at-requires c κs = (c .before .before .before .before .before .before .before .pre .0 .sizes, omega (arith, c .before .before .before .before .before .before .before .pre .0, c .before .before .before .over-count .ensures))
 
 size-if-requires : tie.Need-size-if-requires Inv-loop μ-loop
-size-if-requires c κs = (c .before .before .before .before .before .before .before .before .pre .0, c .before .before .before .before .before .before .before .before .pre .1, omega (arith, c .before .before .before .before .at2 .ensures))
+size-if-requires c κs = (c .before .before .before .before .before .before .before .before .pre .0, c .before .before .before .before .before .before .before .before .pre .1, omega (arith, c .before .before .before .before .over-count .ensures))
 
 add-sum : tie.Need-add-sum Inv-loop μ-loop
-add-sum c = let q = c .before .before .before .before .before .before .before .before .before in omega (arith, c .size-if .ensures, size-le (q .args .h) (q .args .pages .now) (q .args .table .now) (eqb (c .before .before .before .before .before .before .at .result) 1) (c .before .before .before .loop .e) (q .pre .0) (omega (arith, c .before .before .before .before .before .at2 .ensures)), q .pre .0, c .before .before .before .before .before .at2 .ensures)
+add-sum c = let q = c .before .before .before .before .before .before .before .before .before in omega (arith, c .size-if .ensures, size-le (q .args .h) (q .args .pages .now) (q .args .table .now) (eqb (c .before .before .before .before .before .before .mode .result) 1) (c .before .before .before .loop .e) (q .pre .0) (omega (arith, c .before .before .before .before .before .over-count .ensures)), q .pre .0, c .before .before .before .before .before .over-count .ensures)
 
 add-e : tie.Need-add-e Inv-loop μ-loop
 add-e c = omega arith
@@ -46,13 +46,13 @@ loop-less : tie.Need-loop-less Inv-loop μ-loop
 loop-less c = omega arith
 
 loop-again : tie.Need-loop-again Inv-loop μ-loop
-loop-again c = let q = c .before .before .before .before .before .before .before .before .before in let l = c .before .before .before .loop in let r = eqb (c .before .before .before .before .before .before .at .result) 1 in (omega arith, omega (arith, c .size-if .ensures, size-le (q .args .h) (q .args .pages .now) (q .args .table .now) r (l .e) (q .pre .0) (omega (arith, c .before .before .before .before .before .at2 .ensures))), size-more _ _ _ r (l .e) _ _ (l .inv .2) (c .size-if .ensures), all-more _ (l .e) _ _ (l .inv .3) (prefix-passes _ _ _ r (l .e) _ _ (ap (λ (w : ℕ). eqb w 1) (c .before .before .before .before .before .before .at .ensures)) (c .before .prefix-at .ensures) (l .inv .2)))
+loop-again c = let q = c .before .before .before .before .before .before .before .before .before in let l = c .before .before .before .loop in let r = eqb (c .before .before .before .before .before .before .mode .result) 1 in (omega arith, omega (arith, c .size-if .ensures, size-le (q .args .h) (q .args .pages .now) (q .args .table .now) r (l .e) (q .pre .0) (omega (arith, c .before .before .before .before .before .over-count .ensures))), size-more _ _ _ r (l .e) _ _ (l .inv .2) (c .size-if .ensures), all-more _ (l .e) _ _ (l .inv .3) (prefix-passes _ _ _ r (l .e) _ _ (ap (λ (w : ℕ). eqb w 1) (c .before .before .before .before .before .before .mode .ensures)) (c .before .prefix-at .ensures) (l .inv .2)))
 
-at-requires-3 : tie.Need-at-requires-3 Inv-loop μ-loop
-at-requires-3 c κs = search needs
+total-requires : tie.Need-total-requires Inv-loop μ-loop
+total-requires c κs = search needs
 
 returns : tie.Need-returns Inv-loop μ-loop
-returns c = let l = c .before .before .loop in ranks-pass _ _ _ (eqb (c .before .before .before .before .before .at .result) 1) (l .e) _ _ _ (ap (λ (w : ℕ). eqb w 1) (c .before .before .before .before .before .at .ensures)) (omega (arith, c .before .before .before .before .at2 .ensures)) (l .inv .3) (c .at3 .ensures) (l .inv .2)
+returns c = let l = c .before .before .loop in ranks-pass _ _ _ (eqb (c .before .before .before .before .before .mode .result) 1) (l .e) _ _ _ (ap (λ (w : ℕ). eqb w 1) (c .before .before .before .before .before .mode .ensures)) (omega (arith, c .before .before .before .before .over-count .ensures)) (l .inv .3) (c .total .ensures) (l .inv .2)
 
 pub ranks-are-spec : {M : Type 1} → statement M
 ranks-are-spec =
@@ -60,8 +60,8 @@ ranks-are-spec =
     (tie.spec
     Inv-loop
     μ-loop
-    at-requires
-    at-requires-2
+    mode-requires
+    over-count-requires
     add-n
     loop-holds
     prefix-at-requires
@@ -70,5 +70,5 @@ ranks-are-spec =
     add-e
     loop-less
     loop-again
-    at-requires-3
+    total-requires
     returns)

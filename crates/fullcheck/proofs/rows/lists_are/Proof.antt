@@ -15,17 +15,17 @@ Inv-loop rows table h n ok₀ e₀ ok e = (e ≤ n) × (ok ≡ allTo (rowIs h ro
 abbrev μ-loop : tie.MeasureT-loop
 μ-loop rows table h n ok₀ e₀ ok e = n - e
 
-at-requires : tie.Need-at-requires Inv-loop μ-loop
-at-requires c κs = search needs
+over-count-requires : tie.Need-over-count-requires Inv-loop μ-loop
+over-count-requires c κs = search needs
 
 add-n : tie.Need-add-n Inv-loop μ-loop
-add-n c = omega (arith, c .before .before .before .before .pre .0, c .before .at .ensures)
+add-n c = omega (arith, c .before .before .before .before .pre .0, c .before .over-count .ensures)
 
 loop-holds : tie.Need-loop-holds Inv-loop μ-loop
 loop-holds c = (omega arith, all-none _)
 
 row-is-requires : tie.Need-row-is-requires Inv-loop μ-loop
-row-is-requires c κs = (c .before .before .before .before .before .before .pre .0, c .before .before .before .before .before .before .pre .1, omega (arith, c .before .before .before .at .ensures))
+row-is-requires c κs = (c .before .before .before .before .before .before .pre .0, c .before .before .before .before .before .before .pre .1, omega (arith, c .before .before .before .over-count .ensures))
 
 add-e : tie.Need-add-e Inv-loop μ-loop
 add-e c = omega arith
@@ -37,7 +37,7 @@ loop-again : tie.Need-loop-again Inv-loop μ-loop
 loop-again c = let l = c .before .before .loop in (omega arith, all-more _ (l .e) _ _ (l .inv .1) (c .row-is .ensures))
 
 returns : tie.Need-returns Inv-loop μ-loop
-returns c = let l = c .before .loop in all-end _ (l .e) _ _ (l .inv .1) (omega (arith, c .before .before .before .at .ensures)) (omega (arith, c .before .before .before .at .ensures))
+returns c = let l = c .before .loop in all-end _ (l .e) _ _ (l .inv .1) (omega (arith, c .before .before .before .over-count .ensures)) (omega (arith, c .before .before .before .over-count .ensures))
 
 pub lists-are-spec : {M : Type 1} → statement M
 lists-are-spec =
@@ -45,7 +45,7 @@ lists-are-spec =
     (tie.spec
     Inv-loop
     μ-loop
-    at-requires
+    over-count-requires
     add-n
     loop-holds
     row-is-requires

@@ -9,7 +9,7 @@ use Rattle.layout.specs.Mem.{Mem, mem, memOf}
 use Rattle.sums.specs.Ids.{count}
 use Rattle.sums.proofs.Counts.{count-zero}
 use Rattle.calls.specs.Counts.{usedAt}
-use Rattle.idset.proofs.Runs.{run}
+use Rattle.entries.proofs.Runs.{run}
 use Rattle.idset.proofs.Totals.{chunks-no, chunk-more, chunk-fits, chunks-is}
 use borrow.Author.Needs.{needs}
 use Rattle.idset.proofs.count.allocated_chunk_count.Statement.{statement}

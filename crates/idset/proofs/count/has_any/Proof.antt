@@ -9,7 +9,7 @@ use Rattle.layout.specs.Mem.{Mem, mem, memOf}
 use Rattle.sums.specs.Ids.{count}
 use Rattle.sums.proofs.Counts.{count-zero}
 use Rattle.calls.specs.Counts.{usedAt}
-use Rattle.idset.proofs.Runs.{run}
+use Rattle.entries.proofs.Runs.{run}
 use Rattle.idset.proofs.Totals.{any-no, any-more, any-none, any-found}
 use Rattle.idset.proofs.count.has_any.Statement.{statement}
 use Rattle.idset.proofs.count.has_any.Tie as tie

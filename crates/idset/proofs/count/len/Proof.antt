@@ -13,7 +13,7 @@ use Rattle.sums.specs.Rules.{allTo}
 use Rattle.sums.proofs.Sums.{sum-zero}
 use Rattle.sums.proofs.Rules.{all-none, all-more}
 use Rattle.calls.specs.Counts.{goodAt, sizeBy}
-use Rattle.idset.proofs.Runs.{run}
+use Rattle.entries.proofs.Runs.{run}
 use Rattle.idset.proofs.Totals.{no-len, len-more, len-fits, len-bad, len-is}
 use Rattle.idset.proofs.count.len.Statement.{statement}
 use Rattle.idset.proofs.count.len.Tie as tie

@@ -23,13 +23,13 @@ memory c = memOf (c .args .pages) (c .args .rows) (c .args .blocks) (c .args .ta
 
 module _ (c : tie.After-spot-of) where
   abbrev start : tie.Start
-  start = c .before .before .before .before .before .before .before .before .before .before .before
+  start = c .before .before .before .before .before .before .before .before .before .before .before .before .before
 
   abbrev w : ℕ
-  w = c .before .before .before .w .given .0 .0
+  w = c .before .before .before .before .before .w .given .0 .0
 
   word-is : word.Is w ≡ wordIn (memory start .table) (start .args .c)
-  word-is = sym (c .before .before .before .w .given .1) ∙ c .before .before .before .before .before .word-of .ensures
+  word-is = sym (c .before .before .before .before .before .w .given .1) ∙ c .before .before .before .before .before .before .before .word-of .ensures
 
   spotted : (q : Spot) → c .spot-of .result ≡ q → q ≡ spotBy (memory start) w
   spotted q e = sym e ∙ c .spot-of .ensures
@@ -144,6 +144,9 @@ same-length-8 c = search needs
 same-length-9 : tie.Need-same-length-9
 same-length-9 c = search needs
 
+same-length-10 : tie.Need-same-length-10
+same-length-10 c = search needs
+
 returns-4 : tie.Need-returns-4
 returns-4 c =
     let k = c .before .before .before .before .before .before .before in
@@ -152,8 +155,14 @@ returns-4 c =
     put-page (memory a .pages) (memory a .rows) (memory a .blocks) (memory a .table) (a .args .c) (a .args .o) (w k) (word-is k) _ _
     (spotted k _ (c .before .before .before .before .before .a .given .1)) _ _ (m .0) (m .1)
 
-same-length-10 : tie.Need-same-length-10
-same-length-10 c = search needs
+same-length-11 : tie.Need-same-length-11
+same-length-11 c = search needs
+
+same-length-12 : tie.Need-same-length-12
+same-length-12 c = search needs
+
+same-length-13 : tie.Need-same-length-13
+same-length-13 c = search needs
 
 returns-5 : tie.Need-returns-5
 returns-5 c =
@@ -191,6 +200,9 @@ put-spec =
     returns-3
     same-length-8
     same-length-9
-    returns-4
     same-length-10
+    returns-4
+    same-length-11
+    same-length-12
+    same-length-13
     returns-5)

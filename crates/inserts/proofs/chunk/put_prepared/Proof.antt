@@ -20,13 +20,13 @@ memory c = memOf (c .args .pages) (c .args .rows) (c .args .blocks) (c .args .ta
 
 module _ (c : tie.After-spot-of) where
   abbrev start : tie.Start
-  start = c .before .before .before .before .before .before .before .before .before
+  start = c .before .before .before .before .before .before .before .before .before .before
 
   abbrev w : ℕ
-  w = c .before .before .w .given .0 .0
+  w = c .before .before .before .w .given .0 .0
 
   word-is : word.Is w ≡ wordIn (memory start .table) (start .args .c)
-  word-is = sym (c .before .before .w .given .1) ∙ c .before .before .before .before .word-of .ensures
+  word-is = sym (c .before .before .before .w .given .1) ∙ c .before .before .before .before .before .word-of .ensures
 
   spotted : (q : Spot) → c .spot-of .result ≡ q → q ≡ spotBy (memory start) w
   spotted q e = sym e ∙ c .spot-of .ensures
@@ -66,12 +66,18 @@ mark-requires c κs = page-in (c .before .before .before .before) _ _ (c .before
 enum-told-4 : tie.Need-enum-told-4
 enum-told-4 c = search needs
 
+same-length : tie.Need-same-length
+same-length c = search needs
+
 returns-2 : tie.Need-returns-2
 returns-2 c =
     let k = c .before .before in
     let a = start k in
     prepared-place (memory a) (a .args .c) (a .args .o) (w k) (word-is k) _
     (none-at (memory a) (w k) (spotted k _ (c .enum-told2 .given .1)))
+
+same-length-2 : tie.Need-same-length-2
+same-length-2 c = search needs
 
 returns-3 : tie.Need-returns-3
 returns-3 c =
@@ -80,8 +86,8 @@ returns-3 c =
     prepared-place (memory a) (a .args .c) (a .args .o) (w k) (word-is k) _
     (row-at (memory a) (w k) _ _ _ (spotted k _ (c .enum-told3 .given .1)) .names)
 
-same-length : tie.Need-same-length
-same-length c = search needs
+same-length-3 : tie.Need-same-length-3
+same-length-3 c = search needs
 
 returns-4 : tie.Need-returns-4
 returns-4 c =
@@ -89,6 +95,9 @@ returns-4 c =
     let a = start k in
     let m = c .before .before .mark .ensures in
     prepared-page (memory a .pages) (memory a .rows) (memory a .blocks) (memory a .table) (a .args .c) (a .args .o) (w k) (word-is k) _ _ (spotted k _ (c .before .before .before .before .before .a .given .1)) _ _ (m .0) (m .1)
+
+same-length-4 : tie.Need-same-length-4
+same-length-4 c = search needs
 
 returns-5 : tie.Need-returns-5
 returns-5 c =
@@ -110,8 +119,11 @@ put-prepared-spec =
     enum-known-a
     mark-requires
     enum-told-4
-    returns-2
-    returns-3
     same-length
+    returns-2
+    same-length-2
+    returns-3
+    same-length-3
     returns-4
+    same-length-4
     returns-5)

@@ -20,13 +20,13 @@ memory c = memOf (c .args .pages) (c .args .rows) (c .args .blocks) (c .args .ta
 
 module _ (c : tie.After-spot-of) where
   abbrev start : tie.Start
-  start = c .before .before .before .before .before .before .before .before .before .before .before
+  start = c .before .before .before .before .before .before .before .before .before .before .before .before
 
   abbrev w : ℕ
-  w = c .before .before .w .given .0 .0
+  w = c .before .before .before .w .given .0 .0
 
   word-is : word.Is w ≡ wordIn (memory start .table) (start .args .c)
-  word-is = sym (c .before .before .w .given .1) ∙ c .before .before .before .before .direct-word .ensures
+  word-is = sym (c .before .before .before .w .given .1) ∙ c .before .before .before .before .before .direct-word .ensures
 
   spotted : (q : Spot) → c .spot-of .result ≡ q → q ≡ spotBy (memory start) w
   spotted q e = sym e ∙ c .spot-of .ensures
@@ -34,8 +34,8 @@ module _ (c : tie.After-spot-of) where
   page-in : (a n : ℕ) → c .spot-of .result ≡ Page a n → (a + n ≤ length (memory start .pages)) × (start .args .o < 64 * n)
   page-in a n e = page-ready (memory start) (start .args .c) (start .args .o) (start .args .s) (start .pre .2) (start .pre .0) (start .pre .1) (start .pre .3) (start .pre .4) w a n (spotted (Page a n) e)
 
-at-requires : tie.Need-at-requires
-at-requires c κs = search needs
+direct-requires : tie.Need-direct-requires
+direct-requires c κs = search needs
 
 returns : tie.Need-returns
 returns c = into-none (memory (c .before .before .before .before .before .before)) _ _
@@ -58,14 +58,17 @@ spot-of-requires c κs = search needs
 enum-known-a : tie.Need-enum-known-a
 enum-known-a c = search needs
 
+same-length : tie.Need-same-length
+same-length c = search needs
+
 returns-3 : tie.Need-returns-3
-returns-3 c = into-none (memory (c .before .before .before .before .before .before .before .before .before .before .before .before)) _ _
+returns-3 c = into-none (memory (c .before .before .before .before .before .before .before .before .before .before .before .before .before)) _ _
 
 mark-requires : tie.Need-mark-requires
 mark-requires c κs = page-in (c .before .before .before .before) _ _ (c .before .before .a .given .1)
 
-same-length : tie.Need-same-length
-same-length c = search needs
+same-length-2 : tie.Need-same-length-2
+same-length-2 c = search needs
 
 returns-4 : tie.Need-returns-4
 returns-4 c =
@@ -81,7 +84,7 @@ pub into-spec : {M : Type 1} → statement M
 into-spec =
     tie.close
     (tie.spec
-    at-requires
+    direct-requires
     returns
     direct-word-requires
     enum-known-w
@@ -89,7 +92,8 @@ into-spec =
     returns-2
     spot-of-requires
     enum-known-a
+    same-length
     returns-3
     mark-requires
-    same-length
+    same-length-2
     returns-4)

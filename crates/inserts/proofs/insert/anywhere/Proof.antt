@@ -17,13 +17,13 @@ module _ (c : tie.After-known-told) where
   abbrev start : tie.Start
   start = c .before .before .before .before .before .before .before .before .before .before .before .before .before
 
-  shifted : Shift (c .before .before .before .before .at .result)
-  shifted = open-shift (memory start) _ _ (c .before .before .before .before .before .before .before .refusal .ensures) (c .before .before .before .before .before .before .if1 .left) (c .before .before .before .before .at .ensures)
+  shifted : Shift (c .before .before .before .before .shift .result)
+  shifted = open-shift (memory start) _ _ (c .before .before .before .before .before .before .before .refusal .ensures) (c .before .before .before .before .before .before .if1 .left) (c .before .before .before .before .shift .ensures)
 
-  small : (c .before .c .given .0 .0 < 2 ^ 62) × (c .before .c .given .0 .1 .0 < 2 ^ c .before .before .before .before .at .result)
+  small : (c .before .c .given .0 .0 < 2 ^ 62) × (c .before .c .given .0 .1 .0 < 2 ^ c .before .before .before .before .shift .result)
   small = chunk-small _ (start .args .id) (start .fits .id) _ (c .before .before .before .split .ensures) _ _ shifted (c .before .c .given .1)
 
-  lies : split.At (c .before .c .given .0 .0) (c .before .c .given .0 .1 .0) ≡ splitOf (c .before .before .before .before .at .result) (start .args .id)
+  lies : split.At (c .before .c .given .0 .0) (c .before .c .given .0 .1 .0) ≡ splitOf (c .before .before .before .before .shift .result) (start .args .id)
   lies = split-is _ (start .args .id) (start .fits .id) _ (c .before .before .before .split .ensures) _ (c .before .c .given .1)
 
 refusal-requires : tie.Need-refusal-requires
@@ -37,11 +37,11 @@ returns c =
     let a = c .before .before .before .before .before .before .before in
     insert-refused (memory a) (a .args .id) _ (c .before .refusal .ensures) (c .if1 .taken)
 
-at-requires : tie.Need-at-requires
-at-requires c κs = search needs
+shift-requires : tie.Need-shift-requires
+shift-requires c κs = search needs
 
 split-requires : tie.Need-split-requires
-split-requires c κs = shift-64 _ (open-shift (memory (c .before .before .before .before .before .before .before .before .before)) _ _ (c .before .before .before .refusal .ensures) (c .before .before .if1 .left) (c .at .ensures))
+split-requires c κs = shift-64 _ (open-shift (memory (c .before .before .before .before .before .before .before .before .before)) _ _ (c .before .before .before .refusal .ensures) (c .before .before .if1 .left) (c .shift .ensures))
 
 enum-known-c : tie.Need-enum-known-c
 enum-known-c c = search needs
@@ -56,13 +56,13 @@ returns-2 : tie.Need-returns-2
 returns-2 c =
     let a = c .before .before .before .before .before .before .before .before .before .before .before .before in
     insert-negative (memory a) (a .args .id) _ (c .before .before .before .before .before .before .refusal .ensures)
-    (c .before .before .before .before .before .if1 .left) _ (c .before .before .before .at .ensures)
+    (c .before .before .before .before .before .if1 .left) _ (c .before .before .before .shift .ensures)
     (split-is _ (a .args .id) (a .fits .id) _ (c .before .before .split .ensures) _ (c .enum-told .given .1))
 
 put-requires : tie.Need-put-requires
 put-requires c κs =
     let k = c .before .before .before in
-    (shifted k .low, shifted k .high, k .before .before .before .before .at .ensures, small k .0, small k .1)
+    (shifted k .low, shifted k .high, k .before .before .before .before .shift .ensures, small k .0, small k .1)
 
 same-length-3 : tie.Need-same-length-3
 same-length-3 c = search needs
@@ -79,7 +79,7 @@ returns-3 c =
     let a = start k in
     c .before .before .before .before .before .before .put .ensures ∙ insert-at (memory a) (a .args .id) _
     (k .before .before .before .before .before .before .before .refusal .ensures)
-    (k .before .before .before .before .before .before .if1 .left) _ (k .before .before .before .before .at .ensures) _ _ (lies k)
+    (k .before .before .before .before .before .before .if1 .left) _ (k .before .before .before .before .shift .ensures) _ _ (lies k)
 
 pub anywhere-spec : {M : Type 1} → statement M
 anywhere-spec =
@@ -88,7 +88,7 @@ anywhere-spec =
     refusal-requires
     same-length
     returns
-    at-requires
+    shift-requires
     split-requires
     enum-known-c
     enum-told

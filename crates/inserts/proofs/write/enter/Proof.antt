@@ -15,11 +15,11 @@ module _ (c : tie.After-times) where
   abbrev start : tie.Start
   start = c .before .before .before .before .before
 
-  inside : c .times .result + c .before .at .result ≤ length (start .args .rows .now)
-  inside = row-inside (start .args .r) (headerAt (start .args .table .now) .m) _ _ _ (start .pre .row .fits) (c .before .at .ensures) (c .times .ensures)
+  inside : c .times .result + c .before .row-size .result ≤ length (start .args .rows .now)
+  inside = row-inside (start .args .r) (headerAt (start .args .table .now) .m) _ _ _ (start .pre .row .fits) (c .before .row-size .ensures) (c .times .ensures)
 
-at-requires : tie.Need-at-requires
-at-requires c κs = search needs
+row-size-requires : tie.Need-row-size-requires
+row-size-requires c κs = search needs
 
 times-requires : tie.Need-times-requires
 times-requires c κs = search needs
@@ -64,13 +64,13 @@ returns : tie.Need-returns
 returns c =
     let k = c .before .before .before .before .before .before .before .before .before in
     let a = start k .args in
-    (enter-put (a .rows .now) (headerAt (a .table .now)) (a .r) (a .l) (a .k) (a .o) _ _ (k .before .at .ensures) (k .times .ensures) _ (c .before .before .before .before .before .before .before .insert-at .ensures), c .before .before .set-word .ensures ∙ ap (putWord (headerAt (a .table .now)) (a .table .now) (a .c)) (c .before .before .before .row-word .ensures))
+    (enter-put (a .rows .now) (headerAt (a .table .now)) (a .r) (a .l) (a .k) (a .o) _ _ (k .before .row-size .ensures) (k .times .ensures) _ (c .before .before .before .before .before .before .before .insert-at .ensures), c .before .before .set-word .ensures ∙ ap (putWord (headerAt (a .table .now)) (a .table .now) (a .c)) (c .before .before .before .row-word .ensures))
 
 pub enter-spec : {M : Type 1} → statement M
 enter-spec =
     tie.close
     (tie.spec
-    at-requires
+    row-size-requires
     times-requires
     add-e
     mul-insert-at

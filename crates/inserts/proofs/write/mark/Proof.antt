@@ -5,7 +5,8 @@ use mathlib.Core.List.{List}
 use Prim.Native.Nat.{ℕ}
 use lib.ListN.{take, drop}
 use Rattle.dense.specs.Bits.{isSet, withBit}
-use Rattle.steps.proofs.Lent.{span, put-lent}
+use Rattle.layout.proofs.Lent.{span}
+use Rattle.steps.proofs.Lent.{put-lent}
 use borrow.Author.Needs.{needs}
 use Rattle.inserts.proofs.write.mark.Statement.{statement}
 use Rattle.inserts.proofs.write.mark.Tie as tie

@@ -6,7 +6,7 @@ use Rattle.numbers.proofs.Powers.{powers}
 use Rattle.document.specs.Sizes.{top}
 use Rattle.layout.specs.Sizes.{wide}
 use Rattle.layout.proofs.Parts.{slot-in}
-use Rattle.steps.proofs.Lent.{length-lent}
+use Rattle.layout.proofs.Lent.{length-lent}
 use Rattle.inserts.proofs.Acts.{turn-put}
 use borrow.Author.Needs.{needs}
 use Rattle.inserts.proofs.write.turn_page.Statement.{statement}

@@ -1,62 +1,76 @@
--- Entries that don't fit, and the search past the direct ones where they do. Assumes nothing.
-use mathlib.Core.Path.{_≡_, sym, _∙_}
-use mathlib.Core.Bool.{true}
-use native.Mathlib.Omega.{arith}
+-- Each test that fails, and the search past the direct entries where none does. Assumes nothing.
+use Rattle.layout.proofs.Finds.{entries-direct, entries-over, entries-long, entries-fit, entries-all, over-none, over-found}
 use borrow.Author.Needs.{needs}
-use borrow.Author.Tests.{not-true, not-false}
-use Rattle.layout.specs.Short.{entriesIn}
-use Rattle.layout.proofs.Finds.{EntriesIn, entries-are-in, over-none, over-found}
 use Rattle.layout.proofs.find.overflow_word.Statement.{statement}
 use Rattle.layout.proofs.find.overflow_word.Tie as tie
-
-module _ (c : tie.After-over-count) where
-  abbrev start : tie.Start
-  start = c .before .before .before .before
-
-  passed : entriesIn (start .args .table .now) (start .args .d) ≡ true
-  passed = sym (c .before .before .entries-in .ensures) ∙ not-false _ (c .before .if1 .left)
-
-  fits : EntriesIn (start .args .table .now) (start .args .d)
-  fits = entries-are-in (start .args .table .now) (start .args .d) passed
-
-entries-in-requires : tie.Need-entries-in-requires
-entries-in-requires c κs = search needs
-
-returns : tie.Need-returns
-returns c =
-    let a = c .before .before .before .args in
-    over-none (a .table .now) (a .d) (a .c) (sym (c .before .entries-in .ensures) ∙ not-true _ (c .if1 .taken))
 
 over-count-requires : tie.Need-over-count-requires
 over-count-requires c κs = search needs
 
-mul-a : tie.Need-mul-a
-mul-a c = omega (arith, fits c .direct)
-
-add-a : tie.Need-add-a
-add-a c = omega (arith, fits c .direct)
-
-over-place-requires : tie.Need-over-place-requires
-over-place-requires c κs = (omega (arith, fits c .direct), omega (arith, fits c .over))
-
-over-word-requires : tie.Need-over-word-requires
-over-word-requires c κs = let w = fits (c .before) in (omega (arith, w .direct), omega (arith, w .over))
+returns : tie.Need-returns
+returns c =
+    let a = c .before .before .before .args in
+    over-none (a .table .now) (a .d) (a .c) (entries-direct (a .table .now) (a .d) _ (c .before .over-count .ensures) (c .if1 .taken))
 
 returns-2 : tie.Need-returns-2
 returns-2 c =
-    let k = c .before .before in
-    let a = start k .args in
-    over-found (a .table .now) (a .d) (a .c) (passed k) _ _ _ (k .over-count .ensures) (c .before .over-place .ensures .0) (c .over-word .ensures)
+    let a = c .before .before .before .before .args in
+    over-none (a .table .now) (a .d) (a .c) (entries-over (a .table .now) (a .d) _ (c .before .before .over-count .ensures) (c .if2 .taken))
+
+mul-a : tie.Need-mul-a
+mul-a c = search needs
+
+add-a : tie.Need-add-a
+add-a c = search needs
+
+mul-if3 : tie.Need-mul-if3
+mul-if3 c = search needs
+
+add-if3 : tie.Need-add-if3
+add-if3 c = search needs
+
+returns-3 : tie.Need-returns-3
+returns-3 c =
+    let a = c .before .before .before .before .before .args in
+    over-none (a .table .now) (a .d) (a .c) (entries-long (a .table .now) (a .d) _ (c .before .before .before .over-count .ensures) (c .if3 .taken))
+
+overflow-requires : tie.Need-overflow-requires
+overflow-requires c κs = search needs
+
+returns-4 : tie.Need-returns-4
+returns-4 c =
+    let a = c .before .before .before .before .before .before .before .args in
+    over-none (a .table .now) (a .d) (a .c)
+    (entries-fit (a .table .now) (a .d) _ (c .before .before .before .before .before .over-count .ensures) _ (c .before .overflow .ensures) (c .if4 .taken))
+
+over-place-requires : tie.Need-over-place-requires
+over-place-requires c κs = search needs
+
+over-word-requires : tie.Need-over-word-requires
+over-word-requires c κs = search needs
+
+returns-5 : tie.Need-returns-5
+returns-5 c =
+    let a = c .before .before .before .before .before .before .before .before .before .args in
+    let n = c .before .before .before .before .before .before .before .over-count .ensures in
+    over-found (a .table .now) (a .d) (a .c)
+    (entries-all (a .table .now) (a .d) _ n _ (c .before .before .before .overflow .ensures) (c .before .before .before .before .before .before .if1 .left) (c .before .before .before .before .before .if2 .left) (c .before .before .before .before .if3 .left) (c .before .before .if4 .left))
+    _ _ _ n (c .before .over-place .ensures .0) (c .over-word .ensures)
 
 pub overflow-word-spec : {M : Type 1} → statement M
 overflow-word-spec =
     tie.close
     (tie.spec
-    entries-in-requires
-    returns
     over-count-requires
+    returns
+    returns-2
     mul-a
     add-a
+    mul-if3
+    add-if3
+    returns-3
+    overflow-requires
+    returns-4
     over-place-requires
     over-word-requires
-    returns-2)
+    returns-5)

@@ -14,19 +14,11 @@ enum-told c = search needs
 enum-told-2 : tie.Need-enum-told-2
 enum-told-2 c = search needs
 
-enum-told-3 : tie.Need-enum-told-3
-enum-told-3 c = search needs
-
 returns : tie.Need-returns
 returns c = told isNumber (c .enum-told .given .1) (c .before .before .number .ensures)
 
 returns-2 : tie.Need-returns-2
 returns-2 c = told isNumber (c .enum-told2 .given .1) (c .before .before .number .ensures)
 
-returns-3 : tie.Need-returns-3
-returns-3 c = told isNumber (c .enum-told3 .given .1) (c .before .before .number .ensures)
-
 pub is-number-spec : {M : Type 1} → statement M
-is-number-spec =
-    tie.close
-    (tie.spec number-requires enum-told enum-told-2 enum-told-3 returns returns-2 returns-3)
+is-number-spec = tie.close (tie.spec number-requires enum-told enum-told-2 returns returns-2)

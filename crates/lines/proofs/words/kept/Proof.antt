@@ -5,7 +5,7 @@ use borrow.Author.Needs.{needs}
 use native.Mathlib.Omega.{arith}
 use lib.ListN.{length, take}
 use Rattle.lines.specs.Reader.{lineOf}
-use Rattle.lines.proofs.Splits.{kept-more, kept-all}
+use Rattle.lines.proofs.Splits.{kept-none, kept-more, kept-all}
 use Rattle.lines.proofs.words.kept.Statement.{statement}
 use Rattle.lines.proofs.words.kept.Tie as tie
 
@@ -19,7 +19,7 @@ start-requires : tie.Need-start-requires Inv-loop μ-loop
 start-requires c κs = tt
 
 loop-holds : tie.Need-loop-holds Inv-loop μ-loop
-loop-holds c = search needs
+loop-holds c = (search needs, kept-none (c .before .before .args .word .now) _ (c .start .ensures))
 
 shared-slice-read-feed : tie.Need-shared-slice-read-feed Inv-loop μ-loop
 shared-slice-read-feed c = omega arith
@@ -34,10 +34,18 @@ loop-less : tie.Need-loop-less Inv-loop μ-loop
 loop-less c = omega arith
 
 loop-again : tie.Need-loop-again Inv-loop μ-loop
-loop-again c = let s = c .before .before .before .before .before .before .args .word .now in let i = c .before .before .before .loop .i in let h : i < length s = omega arith in (omega arith, kept-more s i _ h (c .feed .ensures _ (c .before .before .before .loop .inv .1)))
+loop-again c =
+    let l = c .before .before .before .loop in
+    let s = c .before .before .before .before .before .before .args .word .now in
+    let h : l .i < length s = omega arith in
+    (omega arith, kept-more s (l .i) (l .l) _ h (l .inv .1) (c .feed .ensures))
 
 returns : tie.Need-returns Inv-loop μ-loop
-returns c = let s = c .before .before .before .before .args .word .now in let i = c .before .loop .i in let h : length s ≤ i = omega arith in kept-all s i _ h (c .before .loop .inv .1)
+returns c =
+    let s = c .before .before .before .before .args .word .now in
+    let i = c .before .loop .i in
+    let h : length s ≤ i = omega arith in
+    kept-all s i _ h (c .before .loop .inv .1)
 
 pub kept-spec : {M : Type 1} → statement M
 kept-spec =

@@ -14,19 +14,11 @@ enum-known-n c = search needs
 enum-told : tie.Need-enum-told
 enum-told c = search needs
 
-enum-told-2 : tie.Need-enum-told-2
-enum-told-2 c = search needs
-
 returns : tie.Need-returns
 returns c = told (numberOr (c .before .before .before .before .before .args .d)) (c .before .n .given .1) (c .before .before .before .number .ensures)
 
 returns-2 : tie.Need-returns-2
 returns-2 c = told (numberOr (c .before .before .before .before .args .d)) (c .enum-told .given .1) (c .before .before .number .ensures)
 
-returns-3 : tie.Need-returns-3
-returns-3 c = told (numberOr (c .before .before .before .before .args .d)) (c .enum-told2 .given .1) (c .before .before .number .ensures)
-
 pub number-or-spec : {M : Type 1} → statement M
-number-or-spec =
-    tie.close
-    (tie.spec number-requires enum-known-n enum-told enum-told-2 returns returns-2 returns-3)
+number-or-spec = tie.close (tie.spec number-requires enum-known-n enum-told returns returns-2)

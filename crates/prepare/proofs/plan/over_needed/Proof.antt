@@ -4,8 +4,8 @@ use borrow.Author.Needs.{needs}
 use Rattle.prepare.proofs.plan.over_needed.Statement.{statement}
 use Rattle.prepare.proofs.plan.over_needed.Tie as tie
 
-at-requires : tie.Need-at-requires
-at-requires c κs = search needs
+over-count-requires : tie.Need-over-count-requires
+over-count-requires c κs = search needs
 
 add-over-below : tie.Need-add-over-below
 add-over-below c = search needs
@@ -28,13 +28,13 @@ add-result c = search needs
 returns : tie.Need-returns
 returns c =
     let a = c .before .before .before .before .args in
-    over-is (a .h) (a .table .now) (a .c) _ _ _ (c .before .before .at .ensures) (c .before .over-below .ensures .0) (c .minus .ensures)
+    over-is (a .h) (a .table .now) (a .c) _ _ _ (c .before .before .over-count .ensures) (c .before .over-below .ensures .0) (c .minus .ensures)
 
 pub over-needed-spec : {M : Type 1} → statement M
 over-needed-spec =
     tie.close
     (tie.spec
-    at-requires
+    over-count-requires
     add-over-below
     over-below-requires
     sub-result

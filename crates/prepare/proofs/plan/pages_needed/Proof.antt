@@ -15,11 +15,11 @@ Inv-loop table h c n k₀ e₀ k e = (e ≤ n) × (k ≤ e) × (k ≡ count (den
 abbrev μ-loop : tie.MeasureT-loop
 μ-loop table h c n k₀ e₀ k e = n - e
 
-at-requires : tie.Need-at-requires Inv-loop μ-loop
-at-requires c κs = search needs
+over-count-requires : tie.Need-over-count-requires Inv-loop μ-loop
+over-count-requires c κs = search needs
 
 add-n : tie.Need-add-n Inv-loop μ-loop
-add-n c = omega (arith, c .before .before .before .pre .0, c .before .before .before .pre .1, c .before .at .ensures)
+add-n c = omega (arith, c .before .before .before .pre .0, c .before .before .before .pre .1, c .before .over-count .ensures)
 
 loop-holds : tie.Need-loop-holds Inv-loop μ-loop
 loop-holds c = (omega arith, omega arith, sym (count-zero _))
@@ -27,7 +27,7 @@ loop-holds c = (omega arith, omega arith, sym (count-zero _))
 dense-past-requires : tie.Need-dense-past-requires Inv-loop μ-loop
 dense-past-requires c κs =
     let a = c .before .before .before .before .before in
-    (a .pre .0, omega (arith, a .pre .0, a .pre .1, c .before .before .before .at .ensures))
+    (a .pre .0, omega (arith, a .pre .0, a .pre .1, c .before .before .before .over-count .ensures))
 
 cast-k : tie.Need-cast-k Inv-loop μ-loop
 cast-k c = search needs
@@ -60,7 +60,7 @@ returns : tie.Need-returns Inv-loop μ-loop
 returns c =
     let a = c .before .before .before .before .before .args in
     let l = c .before .loop in
-    pages-are (a .h) (a .table .now) (a .c) _ (l .e) (l .inv .2) (omega (arith, c .before .before .before .at .ensures))
+    pages-are (a .h) (a .table .now) (a .c) _ (l .e) (l .inv .2) (omega (arith, c .before .before .before .over-count .ensures))
 
 pub pages-needed-spec : {M : Type 1} → statement M
 pages-needed-spec =
@@ -68,7 +68,7 @@ pages-needed-spec =
     (tie.spec
     Inv-loop
     μ-loop
-    at-requires
+    over-count-requires
     add-n
     loop-holds
     dense-past-requires

@@ -26,7 +26,7 @@ range : (r : tie.After-read) → InRange (r .read .result) × (overCount (start 
 range r =
     plan-range (memory (start r)) (start r .args .max-id) _
     (r .before .before .before .before .walk .ensures) (not-false _ (r .before .before .before .if1 .left)) _
-    (r .before .before .at .ensures) _ (r .read .ensures)
+    (r .before .before .mode .ensures) _ (r .read .ensures)
 
 -- the chunk that was found is the maximum's, and so is its plan
 chunk-found : (k : tie.After-chunk-of) (q : Natural) → k .chunk-of .result ≡ q → q ≡ chunkOf (k .before .read .result .s) (start (k .before) .args .max-id)
@@ -38,7 +38,7 @@ planned k q e =
     let r = k .before in
     plan-natural (memory (start r)) (start r .args .max-id) _
     (r .before .before .before .before .walk .ensures) (not-false _ (r .before .before .before .if1 .left)) _
-    (r .before .before .at .ensures) _ (r .read .ensures) (r .before .if2 .left) q (chunk-found k q e)
+    (r .before .before .mode .ensures) _ (r .read .ensures) (r .before .if2 .left) q (chunk-found k q e)
 
 walk-requires : tie.Need-walk-requires
 walk-requires c κs = search needs
@@ -48,14 +48,14 @@ returns c =
     let a = c .before .before .before .before .before .before in
     plan-three (memory a) (a .args .max-id) _ (c .before .walk .ensures) (not-true _ (c .if1 .taken))
 
-at-requires : tie.Need-at-requires
-at-requires c κs = search needs
+mode-requires : tie.Need-mode-requires
+mode-requires c κs = search needs
 
 returns-2 : tie.Need-returns-2
 returns-2 c =
     let a = c .before .before .before .before .before .before .before .before in
     plan-four (memory a) (a .args .max-id) _
-    (c .before .before .before .walk .ensures) (not-false _ (c .before .before .if1 .left)) _ (c .before .at .ensures) (c .if2 .taken)
+    (c .before .before .before .walk .ensures) (not-false _ (c .before .before .if1 .left)) _ (c .before .mode .ensures) (c .if2 .taken)
 
 read-requires : tie.Need-read-requires
 read-requires c κs = search needs
@@ -91,7 +91,7 @@ plan-for-spec =
     (tie.spec
     walk-requires
     returns
-    at-requires
+    mode-requires
     returns-2
     read-requires
     chunk-of-requires

@@ -7,7 +7,7 @@ use Rattle.numbers.proofs.Powers.{powers}
 use Rattle.document.specs.Sizes.{top}
 use Rattle.layout.specs.Sizes.{wide}
 use Rattle.layout.proofs.Parts.{slot-in}
-use Rattle.steps.proofs.Lent.{length-lent}
+use Rattle.layout.proofs.Lent.{length-lent}
 use Rattle.prepare.proofs.Fills.{fill-put}
 use borrow.Author.Needs.{needs}
 use Rattle.prepare.proofs.write.fill_page.Statement.{statement}

@@ -1,9 +1,11 @@
 -- Nothing in no part; a search in a row; one block of a page. Assumes nothing.
 use mathlib.Core.Path.{sym, _∙_}
 use native.Mathlib.Omega.{arith}
-use lib.ListN.{length, getD}
+use lib.ListN.{length}
 use Rattle.layout.specs.Mem.{Mem, memOf}
-use Rattle.ranked.proofs.Parts.{InRows, InPages, row-inside, page-inside, length-part, offset-block, offset-narrow}
+use Rattle.layout.specs.Sizes.{head}
+use Rattle.layout.proofs.Lent.{length-lent}
+use Rattle.calls.proofs.Spots.{InRows, InPages, spot-row, spot-page, offset-block, offset-narrow}
 use Rattle.ranked.proofs.Belows.{below-spot, below-row}
 use borrow.Author.Needs.{needs}
 use Rattle.ranked.proofs.chunk.below.Statement.{statement}
@@ -19,10 +21,10 @@ abbrev in-page : tie.After-known-told2 → tie.Start
 in-page c = c .before .before .before .before .before .before .before .before
 
 row-is : (c : tie.After-known-told) → InRows (length (memory (in-row c) .rows)) (c .before .a .given .0 .0) (c .before .a .given .0 .1 .0) (c .before .a .given .0 .1 .1 .0)
-row-is c = row-inside (memory (in-row c)) (in-row c .args .w) _ _ _ (sym (c .before .before .before .spot-of .ensures) ∙ c .before .a .given .1)
+row-is c = spot-row (memory (in-row c)) (in-row c .args .w) _ _ _ (sym (c .before .before .before .spot-of .ensures) ∙ c .before .a .given .1)
 
-page-is : (c : tie.After-known-told2) → InPages (getD (memory (in-page c) .table) 0 0) (length (memory (in-page c) .pages)) (c .before .a2 .given .0 .0) (c .before .a2 .given .0 .1 .0)
-page-is c = page-inside (memory (in-page c)) (in-page c .args .w) _ _ (sym (c .before .before .before .spot-of .ensures) ∙ c .before .a2 .given .1)
+page-is : (c : tie.After-known-told2) → InPages (head (memory (in-page c)) .s) (length (memory (in-page c) .pages)) (c .before .a2 .given .0 .0) (c .before .a2 .given .0 .1 .0)
+page-is c = spot-page (memory (in-page c)) (in-page c .args .w) _ _ (sym (c .before .before .before .spot-of .ensures) ∙ c .before .a2 .given .1)
 
 spot-of-requires : tie.Need-spot-of-requires
 spot-of-requires c κs = search needs
@@ -52,7 +54,7 @@ cast-below : tie.Need-cast-below
 cast-below c = let a = in-row (c .before) in omega (arith, offset-narrow (a .args .s) (a .args .o) (a .pre .0) (a .pre .1) (a .pre .3))
 
 below-requires : tie.Need-below-requires
-below-requires c κs = let r = row-is (c .before) in omega (arith, r .short, length-part (memory (in-row (c .before)) .rows) _ _ (r .inside))
+below-requires c κs = let r = row-is (c .before) in omega (arith, r .short, length-lent (memory (in-row (c .before)) .rows) _ _ (r .inside))
 
 enum-known-a-2 : tie.Need-enum-known-a-2
 enum-known-a-2 c = search needs

@@ -14,14 +14,14 @@ walk-requires c κs = search needs
 returns : tie.Need-returns
 returns c = walk-bad (memory (c .before .before .before .before .before .before)) _ (c .before .walk .ensures) (c .if1 .taken)
 
-at-requires : tie.Need-at-requires
-at-requires c κs = search needs
+mode-requires : tie.Need-mode-requires
+mode-requires c κs = search needs
 
 returns-2 : tie.Need-returns-2
-returns-2 c = walk-ranked (memory (c .before .before .before .before .before .before .before .before)) _ (c .before .before .before .walk .ensures) (c .before .before .if1 .left) _ (c .before .at .ensures) (c .if2 .taken)
+returns-2 c = walk-ranked (memory (c .before .before .before .before .before .before .before .before)) _ (c .before .before .before .walk .ensures) (c .before .before .if1 .left) _ (c .before .mode .ensures) (c .if2 .taken)
 
 returns-3 : tie.Need-returns-3
-returns-3 c = walk-open (memory (c .before .before .before .before .before .before .before .before)) _ (c .before .before .before .walk .ensures) (c .before .before .if1 .left) _ (c .before .at .ensures) (c .if2 .left)
+returns-3 c = walk-open (memory (c .before .before .before .before .before .before .before .before)) _ (c .before .before .before .walk .ensures) (c .before .before .if1 .left) _ (c .before .mode .ensures) (c .if2 .left)
 
 pub form-of-spec : {M : Type 1} → statement M
-form-of-spec = tie.close (tie.spec walk-requires returns at-requires returns-2 returns-3)
+form-of-spec = tie.close (tie.spec walk-requires returns mode-requires returns-2 returns-3)

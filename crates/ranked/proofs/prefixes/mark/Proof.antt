@@ -7,17 +7,17 @@ use borrow.Author.Needs.{needs}
 use Rattle.ranked.proofs.prefixes.mark.Statement.{statement}
 use Rattle.ranked.proofs.prefixes.mark.Tie as tie
 
-put-requires : tie.Need-put-requires
-put-requires c κs = search needs
+put-total-requires : tie.Need-put-total-requires
+put-total-requires c κs = search needs
 
-put-requires-2 : tie.Need-put-requires-2
-put-requires-2 c κs = search needs
+put-mode-requires : tie.Need-put-mode-requires
+put-mode-requires c κs = search needs
 
 same-length : tie.Need-same-length
 same-length c = search needs
 
 returns : tie.Need-returns
-returns c = c .before .before .put2 .ensures ∙ ap (λ (l : List ℕ). set l 6 (c .before .before .before .before .before .before .before .before .before .args .mode)) (c .before .before .before .before .before .before .put .ensures)
+returns c = c .before .before .put-mode .ensures ∙ ap (λ (l : List ℕ). set l 6 (c .before .before .before .before .before .before .before .before .before .args .mode)) (c .before .before .before .before .before .before .put-total .ensures)
 
 pub mark-spec : {M : Type 1} → statement M
-mark-spec = tie.close (tie.spec put-requires put-requires-2 same-length returns)
+mark-spec = tie.close (tie.spec put-total-requires put-mode-requires same-length returns)

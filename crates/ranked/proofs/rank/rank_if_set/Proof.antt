@@ -24,11 +24,11 @@ enum-told-2 c = search needs
 enum-told-3 : tie.Need-enum-told-3
 enum-told-3 c = search needs
 
-at-requires : tie.Need-at-requires
-at-requires c κs = search needs
+shift-requires : tie.Need-shift-requires
+shift-requires c κs = search needs
 
 split-requires : tie.Need-split-requires
-split-requires c κs = let s = form-shift (c .before .before .before .before .before .before .before .before .args .table .now) (sym (c .before .before .before .form-in .ensures) ∙ c .before .enum-told3 .given .1) in omega (arith, c .at .ensures)
+split-requires c κs = let s = form-shift (c .before .before .before .before .before .before .before .before .args .table .now) (sym (c .before .before .before .form-in .ensures) ∙ c .before .enum-told3 .given .1) in omega (arith, c .shift .ensures)
 
 enum-told-4 : tie.Need-enum-told-4
 enum-told-4 c = search needs
@@ -37,7 +37,7 @@ enum-known-c : tie.Need-enum-known-c
 enum-known-c c = search needs
 
 rank-if-at-requires : tie.Need-rank-if-at-requires
-rank-if-at-requires c κs = let a = c .before .before .before .before .before .before .before .before .before .before .before .before in let s = form-shift (a .args .table .now) (sym (c .before .before .before .before .before .before .before .form-in .ensures) ∙ c .before .before .before .before .before .enum-told3 .given .1) in let e = c .before .before .before .before .at .ensures in let low : 9 ≤ c .before .before .before .before .at .result = omega arith in let high : c .before .before .before .before .at .result ≤ 25 = omega arith in let k = chunk-small _ (a .args .id) (a .fits .id) _ (c .before .before .before .split .ensures) _ _ low high (c .before .c .given .1) in (low, high, e, k .0, k .1)
+rank-if-at-requires c κs = let a = c .before .before .before .before .before .before .before .before .before .before .before .before in let s = form-shift (a .args .table .now) (sym (c .before .before .before .before .before .before .before .form-in .ensures) ∙ c .before .before .before .before .before .enum-told3 .given .1) in let e = c .before .before .before .before .shift .ensures in let low : 9 ≤ c .before .before .before .before .shift .result = omega arith in let high : c .before .before .before .before .shift .result ≤ 25 = omega arith in let k = chunk-small _ (a .args .id) (a .fits .id) _ (c .before .before .before .split .ensures) _ _ low high (c .before .c .given .1) in (low, high, e, k .0, k .1)
 
 returns : tie.Need-returns
 returns c = let a = c .before .before .before .before .before .before .before in rank-if-of (memory a) (a .args .id) _ (rank-if-form (memory a) (a .args .id) _ (sym (c .before .before .form-in .ensures) ∙ c .enum-told .given .1))
@@ -46,10 +46,10 @@ returns-2 : tie.Need-returns-2
 returns-2 c = let a = c .before .before .before .before .before .before .before in rank-if-of (memory a) (a .args .id) _ (rank-if-form (memory a) (a .args .id) _ (sym (c .before .before .form-in .ensures) ∙ c .enum-told2 .given .1))
 
 returns-3 : tie.Need-returns-3
-returns-3 c = let a = c .before .before .before .before .before .before .before .before .before .before .before in rank-if-of (memory a) (a .args .id) _ (rank-if-split (memory a) (a .args .id) (sym (c .before .before .before .before .before .before .form-in .ensures) ∙ c .before .before .before .before .enum-told3 .given .1) _ (c .before .before .before .at .ensures) _ (split-is _ (a .args .id) (a .fits .id) _ (c .before .before .split .ensures) _ (c .enum-told4 .given .1)))
+returns-3 c = let a = c .before .before .before .before .before .before .before .before .before .before .before in rank-if-of (memory a) (a .args .id) _ (rank-if-split (memory a) (a .args .id) (sym (c .before .before .before .before .before .before .form-in .ensures) ∙ c .before .before .before .before .enum-told3 .given .1) _ (c .before .before .before .shift .ensures) _ (split-is _ (a .args .id) (a .fits .id) _ (c .before .before .split .ensures) _ (c .enum-told4 .given .1)))
 
 returns-4 : tie.Need-returns-4
-returns-4 c = let a = c .before .before .before .before .before .before .before .before .before .before .before .before .before in rank-if-of (memory a) (a .args .id) _ (c .rank-if-at .ensures ∙ rank-if-split (memory a) (a .args .id) (sym (c .before .before .before .before .before .before .before .before .form-in .ensures) ∙ c .before .before .before .before .before .before .enum-told3 .given .1) _ (c .before .before .before .before .before .at .ensures) _ (split-is _ (a .args .id) (a .fits .id) _ (c .before .before .before .before .split .ensures) _ (c .before .before .c .given .1)))
+returns-4 c = let a = c .before .before .before .before .before .before .before .before .before .before .before .before .before in rank-if-of (memory a) (a .args .id) _ (c .rank-if-at .ensures ∙ rank-if-split (memory a) (a .args .id) (sym (c .before .before .before .before .before .before .before .before .form-in .ensures) ∙ c .before .before .before .before .before .before .enum-told3 .given .1) _ (c .before .before .before .before .before .shift .ensures) _ (split-is _ (a .args .id) (a .fits .id) _ (c .before .before .before .before .split .ensures) _ (c .before .before .c .given .1)))
 
 pub rank-if-set-spec : {M : Type 1} → statement M
 rank-if-set-spec =
@@ -59,7 +59,7 @@ rank-if-set-spec =
     enum-told
     enum-told-2
     enum-told-3
-    at-requires
+    shift-requires
     split-requires
     enum-told-4
     enum-known-c

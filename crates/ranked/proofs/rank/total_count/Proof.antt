@@ -22,8 +22,8 @@ enum-told-2 c = search needs
 enum-told-3 : tie.Need-enum-told-3
 enum-told-3 c = search needs
 
-at-requires : tie.Need-at-requires
-at-requires c κs = search needs
+total-requires : tie.Need-total-requires
+total-requires c κs = search needs
 
 returns : tie.Need-returns
 returns c = let a = c .before .before .before .before .before .before .before in total-of (memory a) _ _ (sym (c .before .before .form-in .ensures) ∙ c .enum-told .given .1) refl
@@ -32,7 +32,7 @@ returns-2 : tie.Need-returns-2
 returns-2 c = let a = c .before .before .before .before .before .before .before in total-of (memory a) _ _ (sym (c .before .before .form-in .ensures) ∙ c .enum-told2 .given .1) refl
 
 returns-3 : tie.Need-returns-3
-returns-3 c = let a = c .before .before .before .before .before .before .before .before in total-of (memory a) _ _ (sym (c .before .before .before .form-in .ensures) ∙ c .before .enum-told3 .given .1) (ap Of (c .at .ensures))
+returns-3 c = let a = c .before .before .before .before .before .before .before .before in total-of (memory a) _ _ (sym (c .before .before .before .form-in .ensures) ∙ c .before .enum-told3 .given .1) (ap Of (c .total .ensures))
 
 pub total-count-spec : {M : Type 1} → statement M
 total-count-spec =
@@ -42,7 +42,7 @@ total-count-spec =
     enum-told
     enum-told-2
     enum-told-3
-    at-requires
+    total-requires
     returns
     returns-2
     returns-3)

@@ -1,44 +1,39 @@
--- Each turn uses up one element, and the slice keeps its length. Assumes nothing.
-use mathlib.Core.Path.{_≡_, refl}
+-- Each turn uses up one element. Assumes nothing.
 use Prim.Native.Nat.{_-_}
 use borrow.Author.Needs.{needs}
-use native.Mathlib.Omega.{arith}
 use lib.ListN.{length}
 use Rattle.replay.proofs.memory.elements.Statement.{statement}
 use Rattle.replay.proofs.memory.elements.Tie as tie
 
 abbrev Inv-loop : tie.InvT-loop
-Inv-loop out₀ letter pool now₀ i₀ out now i = length out ≡ length out₀
+Inv-loop some name pool now₀ i₀ now i = Unit {0}
 
 abbrev μ-loop : tie.MeasureT-loop
-μ-loop out₀ letter pool now₀ i₀ out now i = length pool - i
+μ-loop some name pool now₀ i₀ now i = length pool - i
 
 loop-holds : tie.Need-loop-holds Inv-loop μ-loop
-loop-holds c = refl
+loop-holds c = search needs
 
 mul-element : tie.Need-mul-element Inv-loop μ-loop
 mul-element c = search needs
 
 shared-slice-read-element : tie.Need-shared-slice-read-element Inv-loop μ-loop
-shared-slice-read-element c = omega arith
+shared-slice-read-element c = search needs
 
 element-requires : tie.Need-element-requires Inv-loop μ-loop
-element-requires c κs = tt
+element-requires c κs = search needs
 
 add-i : tie.Need-add-i Inv-loop μ-loop
-add-i c = omega arith
+add-i c = search needs
 
 loop-less : tie.Need-loop-less Inv-loop μ-loop
-loop-less c = omega arith
+loop-less c = search needs
 
 loop-again : tie.Need-loop-again Inv-loop μ-loop
 loop-again c = search needs
 
-same-length : tie.Need-same-length Inv-loop μ-loop
-same-length c = search needs
-
 returns : tie.Need-returns Inv-loop μ-loop
-returns c = tt
+returns c = search needs
 
 pub elements-spec : {M : Type 1} → statement M
 elements-spec =
@@ -53,5 +48,4 @@ elements-spec =
     add-i
     loop-less
     loop-again
-    same-length
     returns)

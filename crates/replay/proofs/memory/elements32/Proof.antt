@@ -1,5 +1,4 @@
--- Each turn uses up one element, and the slice keeps its length. Assumes nothing.
-use mathlib.Core.Path.{_≡_, refl}
+-- Each turn uses up one element. Assumes nothing.
 use Prim.Native.Nat.{_-_}
 use borrow.Author.Needs.{needs}
 use native.Mathlib.Omega.{arith}
@@ -8,40 +7,37 @@ use Rattle.replay.proofs.memory.elements32.Statement.{statement}
 use Rattle.replay.proofs.memory.elements32.Tie as tie
 
 abbrev Inv-loop : tie.InvT-loop
-Inv-loop out₀ letter pool now₀ i₀ out now i = length out ≡ length out₀
+Inv-loop some name pool now₀ i₀ now i = Unit {0}
 
 abbrev μ-loop : tie.MeasureT-loop
-μ-loop out₀ letter pool now₀ i₀ out now i = length pool - i
+μ-loop some name pool now₀ i₀ now i = length pool - i
 
 loop-holds : tie.Need-loop-holds Inv-loop μ-loop
-loop-holds c = refl
+loop-holds c = search needs
 
-mul-wide : tie.Need-mul-wide Inv-loop μ-loop
-mul-wide c = search needs
+mul-element : tie.Need-mul-element Inv-loop μ-loop
+mul-element c = search needs
 
-shared-slice-read-wide : tie.Need-shared-slice-read-wide Inv-loop μ-loop
-shared-slice-read-wide c = omega arith
+shared-slice-read-element : tie.Need-shared-slice-read-element Inv-loop μ-loop
+shared-slice-read-element c = search needs
 
-wide-requires : tie.Need-wide-requires Inv-loop μ-loop
-wide-requires c κs = search needs
+cast-element : tie.Need-cast-element Inv-loop μ-loop
+cast-element c = omega (arith, c .shared-slice-known2 .given (c .before .before .loop .i))
 
 element-requires : tie.Need-element-requires Inv-loop μ-loop
-element-requires c κs = tt
+element-requires c κs = search needs
 
 add-i : tie.Need-add-i Inv-loop μ-loop
-add-i c = omega arith
+add-i c = search needs
 
 loop-less : tie.Need-loop-less Inv-loop μ-loop
-loop-less c = omega arith
+loop-less c = search needs
 
 loop-again : tie.Need-loop-again Inv-loop μ-loop
 loop-again c = search needs
 
-same-length : tie.Need-same-length Inv-loop μ-loop
-same-length c = search needs
-
 returns : tie.Need-returns Inv-loop μ-loop
-returns c = tt
+returns c = search needs
 
 pub elements32-spec : {M : Type 1} → statement M
 elements32-spec =
@@ -50,12 +46,11 @@ elements32-spec =
     Inv-loop
     μ-loop
     loop-holds
-    mul-wide
-    shared-slice-read-wide
-    wide-requires
+    mul-element
+    shared-slice-read-element
+    cast-element
     element-requires
     add-i
     loop-less
     loop-again
-    same-length
     returns)
