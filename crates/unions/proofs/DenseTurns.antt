@@ -19,7 +19,7 @@ use Rattle.document.specs.Sizes.{InRange, top, lastChunk}
 use Rattle.document.specs.Union.{sameShape}
 use Rattle.document.specs.declared.sizes.Sizes.{Sizes}
 use Rattle.layout.specs.Mem.{Mem, mem}
-use Rattle.layout.specs.Sizes.{wide, head}
+use Rattle.layout.specs.Sizes.{RoomIn, wide, head}
 use Rattle.layout.specs.Places.{rowPart, pagePart, pageOwner}
 use Rattle.layout.specs.Entries.{placeOf}
 use Rattle.layout.specs.Meaning.{offsets, ranked}
@@ -66,6 +66,14 @@ module _ (h : Sizes) (z : InRange h) (page row : List ℕ) (l : ℕ) (long : len
 
 -- ---- the source's members of chunk c, into a page
 
+pub length-source : (y : Mem) → RoomIn (head y) y → (o q : Place) → ((p : ℕ) → q ≡ Dense p → p < head y .p) → (page : List ℕ) → length page ≡ wide (head y)
+    → length (withSource y o page q) ≡ wide (head y)
+length-source y room o Absent inside page long = long
+length-source y room o (Sparse i k) inside page long = length-row page (rowPart (head y) (y .rows) i) (top (head y)) k ∙ long
+length-source y room Absent (Dense p) inside page long = page-length (head y) y room p (inside p refl)
+length-source y room (Sparse r l) (Dense p) inside page long = length-or page (pagePart (head y) (y .pages) p) ∙ long
+length-source y room (Dense r) (Dense p) inside page long = length-or page (pagePart (head y) (y .pages) p) ∙ long
+
 or-none : (b : Bool) → b ≡ (b || false)
 or-none true = refl
 or-none false = refl
@@ -73,16 +81,6 @@ or-none false = refl
 module _ {y : Mem} (v : Follows y) (c : ℕ) (page : List ℕ) (long : length page ≡ wide (head y)) where
   abbrev there : Place
   there = placeOf (head y) (y .table) c
-
-  source-page : (p : ℕ) → there ≡ Dense p → length (pagePart (head y) (y .pages) p) ≡ wide (head y)
-  source-page p e = page-length (head y) y (v .room) p (page-of (laid-walked v) c p e .there)
-
-  pub length-source : (o q : Place) → there ≡ q → length (withSource y o page q) ≡ wide (head y)
-  length-source o Absent e = long
-  length-source o (Sparse i k) e = length-row page (rowPart (head y) (y .rows) i) (top (head y)) k ∙ long
-  length-source Absent (Dense p) e = source-page p e
-  length-source (Sparse r l) (Dense p) e = length-or page (pagePart (head y) (y .pages) p) ∙ long
-  length-source (Dense r) (Dense p) e = length-or page (pagePart (head y) (y .pages) p) ∙ long
 
   module _ (n : ℕ) (l : n < top (head y)) where
     or-page : (p : ℕ) → isSet (orWords page (pagePart (head y) (y .pages) p)) n ≡ (isSet page n || isSet (pagePart (head y) (y .pages) p) n)
@@ -169,7 +167,7 @@ module _ {x : Mem} (w : Follows x) (mode : ranked x ≡ false) (c : ℕ) (far : 
     second : Becomes z (mem (putPage (head z) (z .pages) p now) (z .rows) (z .blocks) (z .table)) c (Dense p) (isSet now)
     second =
         page-anew (still-open x z c c (Dense p) (offsets (head x) x o) opened first far) p (place-after first) now
-        (length-source v c was was-long o q from ∙ wide-same)
+        (length-source y (v .room) o q (λ i e. page-of (laid-walked v) c i (from ∙ e) .there) was was-long ∙ wide-same)
 
     members : (n : ℕ) → n < top (head x) → isSet now n ≡ (offsets (head x) x o n || offsets (head y) y q n)
     members n l =

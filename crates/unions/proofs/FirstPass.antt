@@ -49,7 +49,7 @@ pub kind-at : (z : Mem) (c : ℕ) (o : Place) → placeOf (head z) (z .table) c 
 unfolding kinds
 kind-at z c o e = ap kindOf e
 
-dense-placed : (x y : Mem) (o q : Place) → isDense x y o q ≡ true → isPlaced q ≡ true
+pub dense-placed : (x y : Mem) (o q : Place) → isDense x y o q ≡ true → isPlaced q ≡ true
 dense-placed x y o Absent d = absurd (let z : _≡_ {A = ℕ} 0 1 = cc in omega arith)
 dense-placed x y o (Sparse i k) d = refl
 dense-placed x y o (Dense p) d = refl

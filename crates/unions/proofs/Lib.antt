@@ -12,3 +12,5 @@ pub mod FirstPass
 pub mod SecondPass
 pub mod Passes
 pub mod Kept
+pub mod Entered
+pub mod Spares
