@@ -14,3 +14,4 @@ pub mod Passes
 pub mod Kept
 pub mod Entered
 pub mod Spares
+pub mod Takes
