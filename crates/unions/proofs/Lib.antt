@@ -13,5 +13,7 @@ pub mod SecondPass
 pub mod Passes
 pub mod Kept
 pub mod Entered
-pub mod Spares
 pub mod Takes
+pub mod Accepted
+pub mod Spares
+pub mod Said

@@ -15,7 +15,6 @@ use Rattle.sparse.proofs.Unions.{length-front}
 use Rattle.dense.specs.Bits.{withRow}
 use Rattle.dense.proofs.Bits.{length-row}
 use Rattle.document.specs.Sizes.{top}
-use Rattle.document.specs.Refusals.{not-laid-out, is-ranked, sizes-differ}
 use Rattle.document.specs.Union.{Join, merge-from, merge, sameShape}
 use Rattle.document.specs.declared.sizes.Sizes.{Sizes}
 use Rattle.document.specs.declared.answer.Outcome.{Outcome}
@@ -26,13 +25,12 @@ use Rattle.layout.specs.Places.{decoded, encoded, rowPart, pagePart}
 use Rattle.layout.specs.Entries.{placeAt}
 use Rattle.layout.specs.Short.{wordIn}
 use Rattle.layout.specs.Spare.{Spare}
-use Rattle.layout.specs.Tests.{Walked, walked}
+use Rattle.layout.specs.Tests.{Walked}
 use Rattle.layout.specs.Writes.{putPage}
 use Rattle.layout.specs.declared.place.Place.{Place}
 use Rattle.layout.specs.declared.place.Place.the-variants.{Absent, Sparse, Dense}
 use Rattle.layout.specs.declared.find.Word.{Word}
 use Rattle.layout.specs.declared.find.Word.the-variants.{Is, Bad}
-use Rattle.layout.proofs.Tests.{walked-of}
 use Rattle.layout_laws.proofs.Sizes.{row-length, page-length}
 use Rattle.layout_laws.proofs.Spares.{row-slot, page-slot, slot-beyond, spare-same, fresh-spare}
 use Rattle.steps.specs.Steps.{rowed, paged}
@@ -41,9 +39,10 @@ use Rattle.steps.proofs.Spares.{LeftSlot, rowed-spare, paged-spare}
 use Rattle.calls.specs.Insert.{freeRow, freePage}
 use Rattle.calls.specs.Prepare.{intoPage}
 use Rattle.unions.specs.Union.{fits, fitted, named, standing, source, chunkOf, sourceEntries, isPlaced, rowsUnion, isDense, pageOf, withSource, joinedPage, densely, denseTo}
-use Rattle.unions.specs.Union.{sparsely, sparseTo, unitedBy, overAfter, judged, barredBy, leftBy, metIf, unionPlan, unionBy}
+use Rattle.unions.specs.Union.{sparsely, sparseTo, unitedBy, overAfter, leftBy, metIf, unionPlan, unionBy}
 use Rattle.unions.proofs.Results.{same-s, same-m}
 use Rattle.unions.proofs.Judged.{judged-room}
+use Rattle.unions.proofs.Accepted.{accepted}
 use Rattle.unions.proofs.DenseTurns.{length-source}
 use Rattle.unions.proofs.FirstPass.{dense-placed}
 use Rattle.unions.proofs.Entered.{rowed-wrote, Sound, sound-start, sound-pages, entry-left, entry-room, sound-wrote}
@@ -180,30 +179,6 @@ module _ {x y : Mem} (w : Walked x (head x)) (v : Walked y (head y)) (same : sam
   united-spare = sparse-all (denseTo x y (sourceEntries y)) (dense-all (sourceEntries y) (omega arith)) (sourceEntries y) (omega arith) .spare
 
 -- ---- the call
-
--- what an accepted call has found
-pub record Accepted (x y : Mem) (j : Join) : Type 0 where
-  pub walks : Walked x (head x)
-  pub source-walks : Walked y (head y)
-  pub free : barredBy x y j ≡ false
-  pub same : sameShape (head x) (head y) ≡ true
-  pub room : judged x y ≡ Done
-
-refused-done : (n : ℕ) → Refused n ≡ Done → ⊥
-refused-done n e = let z : _≡_ {A = ℕ} 0 1 = cc in omega arith
-
-pub accepted : (x y : Mem) (j : Join) → unionPlan x y j ≡ Done → Accepted x y j
-unfolding unionPlan
-accepted x y j = go (walked x && walked y) refl (barredBy x y j) refl (sameShape (head x) (head y)) refl
-  where
-    go : (a : Bool) → (walked x && walked y) ≡ a → (b : Bool) → barredBy x y j ≡ b → (d : Bool) → sameShape (head x) (head y) ≡ d
-        → cond a (cond b (Refused is-ranked) (cond d (judged x y) (Refused sizes-differ))) (Refused not-laid-out) ≡ Done → Accepted x y j
-    go true p false q true r e =
-        let g = both (walked x) (walked y) p in
-        record { walks = walked-of x .sound (g .0); source-walks = walked-of y .sound (g .1); free = q; same = r; room = e }
-    go true p false q false r e = absurd (refused-done sizes-differ e)
-    go true p true q d r e = absurd (refused-done is-ranked e)
-    go false p b q d r e = absurd (refused-done not-laid-out e)
 
 module _ (x y : Mem) (j : Join) where
   pub union-here-spare : Spare (head x) x (unionBy x y j .here)
