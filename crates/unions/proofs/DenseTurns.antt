@@ -10,6 +10,7 @@ use lib.ListN.{length, getD}
 use lib.Dec.{ltb}
 use lib.Pow.{pow-pos}
 use borrow.Author.Tests.{lt-ltb}
+use Rattle.sums.specs.Ids.{Ids}
 use Rattle.sparse.specs.Row.{rowOf, member}
 use Rattle.sparse.proofs.Rows.{same-test, member-of}
 use Rattle.dense.specs.Bits.{bit, isSet, orWords, withRow}
@@ -87,7 +88,8 @@ module _ {y : Mem} (v : Follows y) (c : ℕ) (page : List ℕ) (long : length pa
     or-page p = let t = wide-top (head y) (v .sizes) in isSet-or page (pagePart (head y) (y .pages) p) n (omega arith)
 
     -- a page that is copied takes the place of an empty one
-    pub set-source : (o q : Place) → there ≡ q → (o ≡ Absent → isSet page n ≡ false) → isSet (withSource y o page q) n ≡ (isSet page n || offsets (head y) y q n)
+    pub set-source : (o q : Place) → there ≡ q → (o ≡ Absent → isSet page n ≡ false)
+        → isSet (withSource y o page q) n ≡ (isSet page n || offsets (head y) y q n)
     set-source o Absent e clear = or-none (isSet page n)
     set-source o (Sparse i k) e clear =
         set-row (head y) (v .sizes) page (rowPart (head y) (y .rows) i) k long (subst (RowListed (head y) (y .rows)) e (listed-of v c)) n
@@ -176,15 +178,16 @@ module _ {x : Mem} (w : Follows x) (mode : ranked x ≡ false) (c : ℕ) (far : 
         set-source v c was was-long n (omega arith) o q from (λ e. i ∙ ap (λ (r : Place). offsets (head x) x r n) e)
         ∙ ap (λ (b : Bool). b || offsets (head y) y q n) i
 
-    pub joined-turn : Becomes x (joinedPage z y o p q) c (Dense p) (λ (n : ℕ). offsets (head x) x o n || offsets (head y) y q n)
-    joined-turn = becomes-as (becomes-then first second) (λ (n : ℕ). offsets (head x) x o n || offsets (head y) y q n) members
+    abbrev both : Ids
+    both = λ (n : ℕ). offsets (head x) x o n || offsets (head y) y q n
+
+    joined-turn : Becomes x (joinedPage z y o p q) c (Dense p) both
+    joined-turn = becomes-as (becomes-then first second) both members
 
     pub dense-turn : isDense x y o q ≡ true → Becomes x (densely x y c o q) c (Dense p) (λ (n : ℕ). offsets (head x) x o n || offsets (head y) y q n)
     dense-turn d =
-        subst (λ (t : Bool). Becomes x (cond (t && ltb p (head x .p)) (joinedPage z y o p q) x) c (Dense p) (λ (n : ℕ). offsets (head x) x o n || offsets (head y) y q n))
-        (sym d)
-        (subst (λ (t : Bool). Becomes x (cond t (joinedPage z y o p q) x) c (Dense p) (λ (n : ℕ). offsets (head x) x o n || offsets (head y) y q n))
-        (sym (lt-ltb p (head x .p) page)) joined-turn)
+        subst (λ (t : Bool). Becomes x (cond (t && ltb p (head x .p)) (joinedPage z y o p q) x) c (Dense p) both) (sym d)
+        (subst (λ (t : Bool). Becomes x (cond t (joinedPage z y o p q) x) c (Dense p) both) (sym (lt-ltb p (head x .p) page)) joined-turn)
 
 -- any other chunk waits
 pub dense-waits : (x y : Mem) (c : ℕ) (o q : Place) → isDense x y o q ≡ false → densely x y c o q ≡ x

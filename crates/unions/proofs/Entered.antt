@@ -136,9 +136,12 @@ module _ {x y : Mem} (w : Walked x (head x)) (v : Walked y (head y)) (same : sam
     not-yet : Missing → entered x y z e ≡ false
     not-yet none = ap (λ (q : Place). newEntry x y e && isPlaced q) (absent none) ∙ and-false (newEntry x y e)
 
+    was-new : (j : ℕ) → entered x y z j ≡ true → newEntry x y j ≡ true
+    was-new j p = both (newEntry x y j) (isPlaced (placeOf (head z) (z .table) (chunkOf y j))) p .0
+
     pub entry-left : ((j : ℕ) → j < entries (head z) (z .table) → chunkAt (head z) (z .table) j ≢ chunkOf y e) → overCount (z .table) < head z .v
     entry-left none =
-        let a = count-under (entered x y z) (newEntry x y) e (sourceEntries y) l (λ j p. both (newEntry x y j) (isPlaced (placeOf (head z) (z .table) (chunkOf y j))) p .0) (not-yet none) (new none) in
+        let a = count-under (entered x y z) (newEntry x y) e (sourceEntries y) l was-new (not-yet none) (new none) in
         let b = s .counted in
         let d = ap (λ (h : Sizes). h .v) (s .sizes) in
         omega arith
@@ -176,7 +179,8 @@ module _ {x y : Mem} (w : Walked x (head x)) (v : Walked y (head y)) (same : sam
       counts : overCount (n .table) ≤ overCount (x .table) + count (entered x y n) (sourceEntries y)
       counts = go (wrote .put)
         where
-          go : Put (runOf (head z) (z .table)) (runOf (head z) (n .table)) c u → overCount (n .table) ≤ overCount (x .table) + count (entered x y n) (sourceEntries y)
+          go : Put (runOf (head z) (z .table)) (runOf (head z) (n .table)) c u
+              → overCount (n .table) ≤ overCount (x .table) + count (entered x y n) (sourceEntries y)
           go (puts.changed j k) =
               let a = count-imp (entered x y z) (entered x y n) (sourceEntries y) still-entered in
               let b = s .counted in

@@ -30,8 +30,9 @@ use Rattle.unions.proofs.Standing.{standing-is, source-of, chunk-in}
 use Rattle.unions.proofs.Results.{same-last, result-dense}
 use Rattle.unions.proofs.DenseTurns.{dense-turn, dense-waits}
 use Rattle.unions.proofs.Rooms.{page-there, entry-there}
-use Rattle.unions.proofs.Partly.{Has, Alike, has-alike, Goes, goes-nowhere, Partly, partly-kinds, partly-next, partly-more}
-use Rattle.unions.proofs.Halfway.{halfway, dense-present, after-present, after-dense, half-present, half-dense, half-not, half-none, map-still, members-still}
+use Rattle.unions.proofs.Partly.{Has, Alike, has-alike, Goes, goes-nowhere, Partly, partly-kinds, partly-none, partly-next, partly-more}
+use Rattle.unions.proofs.Halfway.{halfway, dense-present, after-present, after-dense, half-present, half-dense}
+use Rattle.unions.proofs.Halfway.{half-not, half-none, map-still, members-still}
 
 -- ---- a turn's chunk, in memory of the same sizes and mode
 
@@ -90,11 +91,13 @@ module _ {x y : Mem} (w : Follows x) (mode : ranked x ≡ false) (v : Follows y)
 
     under-present : (i : ℕ) → isPresent (kinds z i) ≡ true → isPresent (map i) ≡ true
     under-present =
-        partly-kinds s (λ (i : ℕ) (k : Kind). isPresent k ≡ true → isPresent (map i) ≡ true) (after-present (stateOf x) (stateOf y)) (half-present (stateOf x) (stateOf y))
+        partly-kinds s (λ (i : ℕ) (k : Kind). isPresent k ≡ true → isPresent (map i) ≡ true) (after-present (stateOf x) (stateOf y))
+        (half-present (stateOf x) (stateOf y))
 
     under-dense : (i : ℕ) → state.isDense (kinds z i) ≡ true → state.isDense (map i) ≡ true
     under-dense =
-        partly-kinds s (λ (i : ℕ) (k : Kind). state.isDense k ≡ true → state.isDense (map i) ≡ true) (after-dense (stateOf x) (stateOf y)) (half-dense (stateOf x) (stateOf y))
+        partly-kinds s (λ (i : ℕ) (k : Kind). state.isDense k ≡ true → state.isDense (map i) ≡ true) (after-dense (stateOf x) (stateOf y))
+        (half-dense (stateOf x) (stateOf y))
 
     -- ---- one that becomes dense
 
@@ -167,7 +170,7 @@ module _ {x y : Mem} (w : Follows x) (mode : ranked x ≡ false) (v : Follows y)
 
   pub first-pass : (e : ℕ) → e ≤ sourceEntries y → Partly x y (stateOf x) (halfway (stateOf x) (stateOf y)) e (denseTo x y e)
   unfolding denseTo
-  first-pass zero l = record { follows = w; sizes = refl; mode = refl; turned = λ j m. absurd (omega arith); waits = λ i none. record { kind = refl; members = λ n i. refl } }
+  first-pass zero l = partly-none w refl refl (λ i. record { kind = refl; members = λ n e. refl })
   first-pass (suc e) l = go (denseTo x y e) (first-pass e (omega arith))
     where
       go : (z : Mem) → Partly x y (stateOf x) half e z → Partly x y (stateOf x) half (suc e) (densely z y (chunkOf y e) (standing z (chunkOf y e)) (source y e))

@@ -138,6 +138,10 @@ pub record Partly (x y : Mem) (from to : State) (e : ℕ) (z : Mem) : Type 0 whe
   pub turned : (j : ℕ) → j < e → Has z (chunkOf y j) to
   pub waits : (i : ℕ) → ((j : ℕ) → j < e → chunkOf y j ≢ i) → Has z i from
 
+pub partly-none : {x y : Mem} {from to : State} {z : Mem} → Follows z → head z ≡ head x → modeAt (z .table) ≡ modeAt (x .table) → ((i : ℕ) → Has z i from)
+    → Partly x y from to 0 z
+partly-none w sizes mode has = record { follows = w; sizes = sizes; mode = mode; turned = λ j m. absurd (omega arith); waits = λ i none. has i }
+
 module _ {x y : Mem} {from to : State} {e : ℕ} {z : Mem} (s : Partly x y from to e z) where
   -- what both sets say of kinds
   pub partly-kinds : (P : ℕ → Kind → Type 0) → ((i : ℕ) → P i (from .map i)) → ((i : ℕ) → P i (to .map i)) → (i : ℕ) → P i (kinds z i)

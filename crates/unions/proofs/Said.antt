@@ -58,8 +58,8 @@ module _ {x y : Mem} (w : Follows x) (v : Follows y) where
   plan-is : (j : Join) → unionPlan x y j ≡ unionAnswer (stateOf x) (stateOf y) j
   unfolding unionPlan unionAnswer
   plan-is j =
-      ap₂ (λ (a b : Bool). cond (a && b) (cond (barredBy x y j) (Refused is-ranked) (cond (sameShape (head x) (head y)) (judged x y) (Refused sizes-differ))) (Refused not-laid-out))
-      (follows-walked w) (follows-walked v)
+      let go-on = cond (barredBy x y j) (Refused is-ranked) (cond (sameShape (head x) (head y)) (judged x y) (Refused sizes-differ)) in
+      ap₂ (λ (a b : Bool). cond (a && b) go-on (Refused not-laid-out)) (follows-walked w) (follows-walked v)
       ∙ ap₂ (λ (a : Bool) (i : Outcome). cond a (Refused is-ranked) i) (barred-is j) (shape-is (sameShape (head x) (head y)) refl)
 
   -- ---- the source after an accepted call

@@ -32,7 +32,8 @@ use Rattle.unions.proofs.Results.{result-kind}
 use Rattle.unions.proofs.SparseTurns.{copied-turn, rows-turn}
 use Rattle.unions.proofs.Rooms.{row-there, entry-there}
 use Rattle.unions.proofs.Partly.{Has, Alike, alike-back, has-alike, Goes, goes-nowhere, Partly, partly-kinds, partly-next, partly-more}
-use Rattle.unions.proofs.Halfway.{halfway, after-there, half-present, half-dense, half-clear, half-sparse, half-not, half-all, all-none, map-still, members-still}
+use Rattle.unions.proofs.Halfway.{halfway, after-there, half-present, half-dense, half-clear, half-sparse}
+use Rattle.unions.proofs.Halfway.{half-not, half-all, all-none, map-still, members-still}
 use Rattle.unions.proofs.FirstPass.{far-still, shape-still, open-still, kind-at}
 
 module _ (x : Mem) {y : Mem} (mode : ranked x ≡ false) (v : Follows y) (same : sameShape (head x) (head y) ≡ true)
@@ -111,7 +112,8 @@ module _ (x : Mem) {y : Mem} (mode : ranked x ≡ false) (v : Follows y) (same :
           ap₂ (λ (u j : Place). offsets (head z) z u (n % top (head z)) || offsets (head y) y j (n % top (head z))) (sym at) (sym from)
           ∙ members-still x y z same (s .sizes) c was n g
 
-    begins : (at : placeOf (head z) (z .table) c ≡ Absent) (i k : ℕ) → placeOf (head y) (y .table) c ≡ Sparse i k → Goes sparse z (sparsely z y c Absent (Sparse i k)) c whole
+    begins : placeOf (head z) (z .table) c ≡ Absent → (i k : ℕ) → placeOf (head y) (y .table) c ≡ Sparse i k
+        → Goes sparse z (sparsely z y c Absent (Sparse i k)) c whole
     begins at i k from =
         record {
           place = Sparse (freeRow z) k;
@@ -136,7 +138,7 @@ module _ (x : Mem) {y : Mem} (mode : ranked x ≡ false) (v : Follows y) (same :
             entry-there f map c far under-present (subst (λ (h : Sizes). overflows h map ≤ h .v) (sym (s .sizes)) over) (ap isPresent (kind-at z c Absent at))
             (ap isPresent (sym is))
 
-    joins : (r m : ℕ) (at : placeOf (head z) (z .table) c ≡ Sparse r m) (i k : ℕ) → placeOf (head y) (y .table) c ≡ Sparse i k
+    joins : (r m : ℕ) → placeOf (head z) (z .table) c ≡ Sparse r m → (i k : ℕ) → placeOf (head y) (y .table) c ≡ Sparse i k
         → Goes sparse z (sparsely z y c (Sparse r m) (Sparse i k)) c whole
     joins r m at i k from =
         record {

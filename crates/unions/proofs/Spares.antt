@@ -38,7 +38,8 @@ use Rattle.steps.proofs.Orders.{paged-wrote}
 use Rattle.steps.proofs.Spares.{LeftSlot, rowed-spare, paged-spare}
 use Rattle.calls.specs.Insert.{freeRow, freePage}
 use Rattle.calls.specs.Prepare.{intoPage}
-use Rattle.unions.specs.Union.{fits, fitted, named, standing, source, chunkOf, sourceEntries, isPlaced, rowsUnion, isDense, pageOf, withSource, joinedPage, densely, denseTo}
+use Rattle.unions.specs.Union.{fits, fitted, named, standing, source, chunkOf, sourceEntries, isPlaced, rowsUnion}
+use Rattle.unions.specs.Union.{isDense, pageOf, withSource, joinedPage, densely, denseTo}
 use Rattle.unions.specs.Union.{sparsely, sparseTo, unitedBy, overAfter, leftBy, metIf, unionPlan, unionBy}
 use Rattle.unions.proofs.Results.{same-s, same-m}
 use Rattle.unions.proofs.Judged.{judged-room}
@@ -91,7 +92,8 @@ module _ {x y : Mem} (w : Walked x (head x)) (v : Walked y (head y)) (same : sam
     c = chunkOf y e
 
     module _ (some : isPlaced (source y e) ≡ true) where
-      paged-sound : (o : Place) → LeftSlot (head z) z o → (p : ℕ) → p < head z .p → (page : List ℕ) → length page ≡ wide (head z) → Sound x y (paged (head z) z c o p page)
+      paged-sound : (o : Place) → LeftSlot (head z) z o → (p : ℕ) → p < head z .p → (page : List ℕ) → length page ≡ wide (head z)
+          → Sound x y (paged (head z) z c o p page)
       paged-sound o left p there page long =
           sound-wrote w v same over s e l some (paged (head z) z c o p page) (encoded (Dense p))
           (paged-wrote (head z) z (s .ordered) (s .room .in-table) (s .fits) c (entry-left w v same over s e l some) o p page)
@@ -106,7 +108,8 @@ module _ {x y : Mem} (w : Walked x (head x)) (v : Walked y (head y)) (same : sam
           (rowed-spare (head z) z c (entry-room w v same over s e l some) r k row (row-slot (head z) z (s .room) r there) long)
 
       into-sound : (o : Place) → fits (head z) o ≡ true → pageOf z o < head z .p → Sound x y (intoPage (head z) z c (pageOf z o) o)
-      into-sound Absent ok there = paged-sound Absent tt (freePage z) there (pagePart (head z) (z .pages) (freePage z)) (page-length (head z) z (s .room) (freePage z) there)
+      into-sound Absent ok there =
+          paged-sound Absent tt (freePage z) there (pagePart (head z) (z .pages) (freePage z)) (page-length (head z) z (s .room) (freePage z) there)
       into-sound (Sparse r k) ok there =
           let page = pagePart (head z) (z .pages) (freePage z) in
           let row = rowPart (head z) (z .rows) r in
@@ -164,15 +167,15 @@ module _ {x y : Mem} (w : Walked x (head x)) (v : Walked y (head y)) (same : sam
   unfolding denseTo
   dense-all zero l = sound-start y w
   dense-all (suc e) l =
-      dense-sound (dense-all e (omega arith)) e (omega arith) (standing (denseTo x y e) (chunkOf y e)) (source y e) (standing-fits (denseTo x y e) (chunkOf y e)) refl
-      (source-fits y e)
+      dense-sound (dense-all e (omega arith)) e (omega arith) (standing (denseTo x y e) (chunkOf y e)) (source y e)
+      (standing-fits (denseTo x y e) (chunkOf y e)) refl (source-fits y e)
 
   sparse-all : (z : Mem) → Sound x y z → (e : ℕ) → e ≤ sourceEntries y → Sound x y (sparseTo z y e)
   unfolding sparseTo
   sparse-all z s zero l = s
   sparse-all z s (suc e) l =
-      sparse-sound (sparse-all z s e (omega arith)) e (omega arith) (standing (sparseTo z y e) (chunkOf y e)) (source y e) (standing-fits (sparseTo z y e) (chunkOf y e)) refl
-      (source-fits y e)
+      sparse-sound (sparse-all z s e (omega arith)) e (omega arith) (standing (sparseTo z y e) (chunkOf y e)) (source y e)
+      (standing-fits (sparseTo z y e) (chunkOf y e)) refl (source-fits y e)
 
   pub united-spare : Spare (head x) x (unitedBy x y)
   unfolding unitedBy

@@ -140,7 +140,8 @@ module _ {x y : Mem} (w : Follows x) (v : Follows y) (mode : ranked x ≡ false)
 
   second-lands : (c : ℕ) → (placeIn (unitedBy x y) c ≡ placeIn mid c) ⊎ (kinds (unitedBy x y) c ≡ sparse)
   unfolding sparseTo unitedBy
-  second-lands = lands-all sparse (united (stateOf x) (stateOf y) Done) (chunkOf y) (sourceEntries y) (sparseTo mid y) second-goes (sourceEntries y) (omega arith)
+  second-lands =
+      lands-all sparse (united (stateOf x) (stateOf y) Done) (chunkOf y) (sourceEntries y) (sparseTo mid y) second-goes (sourceEntries y) (omega arith)
 
   pub union-takes : TakesDenseFirst x (unitedBy x y)
   union-takes = record {
