@@ -10,6 +10,7 @@ use lib.ListN.{length, getD}
 use lib.Dec.{ltb}
 use lib.Pow.{pow-pos}
 use borrow.Author.Tests.{lt-ltb}
+use Rattle.sums.specs.Ids.{Ids}
 use Rattle.sparse.specs.Row.{rowOf, member}
 use Rattle.sparse.proofs.Rows.{same-test, member-of}
 use Rattle.dense.specs.Bits.{bit, isSet, orWords, withRow}
@@ -19,7 +20,7 @@ use Rattle.document.specs.Sizes.{InRange, top, lastChunk}
 use Rattle.document.specs.Union.{sameShape}
 use Rattle.document.specs.declared.sizes.Sizes.{Sizes}
 use Rattle.layout.specs.Mem.{Mem, mem}
-use Rattle.layout.specs.Sizes.{wide, head}
+use Rattle.layout.specs.Sizes.{RoomIn, wide, head}
 use Rattle.layout.specs.Places.{rowPart, pagePart, pageOwner}
 use Rattle.layout.specs.Entries.{placeOf}
 use Rattle.layout.specs.Meaning.{offsets, ranked}
@@ -66,6 +67,14 @@ module _ (h : Sizes) (z : InRange h) (page row : List ℕ) (l : ℕ) (long : len
 
 -- ---- the source's members of chunk c, into a page
 
+pub length-source : (y : Mem) → RoomIn (head y) y → (o q : Place) → ((p : ℕ) → q ≡ Dense p → p < head y .p) → (page : List ℕ) → length page ≡ wide (head y)
+    → length (withSource y o page q) ≡ wide (head y)
+length-source y room o Absent inside page long = long
+length-source y room o (Sparse i k) inside page long = length-row page (rowPart (head y) (y .rows) i) (top (head y)) k ∙ long
+length-source y room Absent (Dense p) inside page long = page-length (head y) y room p (inside p refl)
+length-source y room (Sparse r l) (Dense p) inside page long = length-or page (pagePart (head y) (y .pages) p) ∙ long
+length-source y room (Dense r) (Dense p) inside page long = length-or page (pagePart (head y) (y .pages) p) ∙ long
+
 or-none : (b : Bool) → b ≡ (b || false)
 or-none true = refl
 or-none false = refl
@@ -74,22 +83,13 @@ module _ {y : Mem} (v : Follows y) (c : ℕ) (page : List ℕ) (long : length pa
   abbrev there : Place
   there = placeOf (head y) (y .table) c
 
-  source-page : (p : ℕ) → there ≡ Dense p → length (pagePart (head y) (y .pages) p) ≡ wide (head y)
-  source-page p e = page-length (head y) y (v .room) p (page-of (laid-walked v) c p e .there)
-
-  pub length-source : (o q : Place) → there ≡ q → length (withSource y o page q) ≡ wide (head y)
-  length-source o Absent e = long
-  length-source o (Sparse i k) e = length-row page (rowPart (head y) (y .rows) i) (top (head y)) k ∙ long
-  length-source Absent (Dense p) e = source-page p e
-  length-source (Sparse r l) (Dense p) e = length-or page (pagePart (head y) (y .pages) p) ∙ long
-  length-source (Dense r) (Dense p) e = length-or page (pagePart (head y) (y .pages) p) ∙ long
-
   module _ (n : ℕ) (l : n < top (head y)) where
     or-page : (p : ℕ) → isSet (orWords page (pagePart (head y) (y .pages) p)) n ≡ (isSet page n || isSet (pagePart (head y) (y .pages) p) n)
     or-page p = let t = wide-top (head y) (v .sizes) in isSet-or page (pagePart (head y) (y .pages) p) n (omega arith)
 
     -- a page that is copied takes the place of an empty one
-    pub set-source : (o q : Place) → there ≡ q → (o ≡ Absent → isSet page n ≡ false) → isSet (withSource y o page q) n ≡ (isSet page n || offsets (head y) y q n)
+    pub set-source : (o q : Place) → there ≡ q → (o ≡ Absent → isSet page n ≡ false)
+        → isSet (withSource y o page q) n ≡ (isSet page n || offsets (head y) y q n)
     set-source o Absent e clear = or-none (isSet page n)
     set-source o (Sparse i k) e clear =
         set-row (head y) (v .sizes) page (rowPart (head y) (y .rows) i) k long (subst (RowListed (head y) (y .rows)) e (listed-of v c)) n
@@ -169,7 +169,7 @@ module _ {x : Mem} (w : Follows x) (mode : ranked x ≡ false) (c : ℕ) (far : 
     second : Becomes z (mem (putPage (head z) (z .pages) p now) (z .rows) (z .blocks) (z .table)) c (Dense p) (isSet now)
     second =
         page-anew (still-open x z c c (Dense p) (offsets (head x) x o) opened first far) p (place-after first) now
-        (length-source v c was was-long o q from ∙ wide-same)
+        (length-source y (v .room) o q (λ i e. page-of (laid-walked v) c i (from ∙ e) .there) was was-long ∙ wide-same)
 
     members : (n : ℕ) → n < top (head x) → isSet now n ≡ (offsets (head x) x o n || offsets (head y) y q n)
     members n l =
@@ -178,15 +178,16 @@ module _ {x : Mem} (w : Follows x) (mode : ranked x ≡ false) (c : ℕ) (far : 
         set-source v c was was-long n (omega arith) o q from (λ e. i ∙ ap (λ (r : Place). offsets (head x) x r n) e)
         ∙ ap (λ (b : Bool). b || offsets (head y) y q n) i
 
-    pub joined-turn : Becomes x (joinedPage z y o p q) c (Dense p) (λ (n : ℕ). offsets (head x) x o n || offsets (head y) y q n)
-    joined-turn = becomes-as (becomes-then first second) (λ (n : ℕ). offsets (head x) x o n || offsets (head y) y q n) members
+    abbrev both : Ids
+    both = λ (n : ℕ). offsets (head x) x o n || offsets (head y) y q n
+
+    joined-turn : Becomes x (joinedPage z y o p q) c (Dense p) both
+    joined-turn = becomes-as (becomes-then first second) both members
 
     pub dense-turn : isDense x y o q ≡ true → Becomes x (densely x y c o q) c (Dense p) (λ (n : ℕ). offsets (head x) x o n || offsets (head y) y q n)
     dense-turn d =
-        subst (λ (t : Bool). Becomes x (cond (t && ltb p (head x .p)) (joinedPage z y o p q) x) c (Dense p) (λ (n : ℕ). offsets (head x) x o n || offsets (head y) y q n))
-        (sym d)
-        (subst (λ (t : Bool). Becomes x (cond t (joinedPage z y o p q) x) c (Dense p) (λ (n : ℕ). offsets (head x) x o n || offsets (head y) y q n))
-        (sym (lt-ltb p (head x .p) page)) joined-turn)
+        subst (λ (t : Bool). Becomes x (cond (t && ltb p (head x .p)) (joinedPage z y o p q) x) c (Dense p) both) (sym d)
+        (subst (λ (t : Bool). Becomes x (cond t (joinedPage z y o p q) x) c (Dense p) both) (sym (lt-ltb p (head x .p) page)) joined-turn)
 
 -- any other chunk waits
 pub dense-waits : (x y : Mem) (c : ℕ) (o q : Place) → isDense x y o q ≡ false → densely x y c o q ≡ x

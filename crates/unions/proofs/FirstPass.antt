@@ -1,5 +1,6 @@
 -- The first pass: chunks whose result is dense get there, every other waits. Assumes nothing.
 use mathlib.Core.Path.{_≡_, refl, sym, ap, subst, _∙_}
+use mathlib.Core.Logic.{inr}
 use mathlib.Core.Bool.{Bool, true, false, cond, _||_}
 use Prim.Native.Nat.{ℕ, zero, suc, _/_, _%_, _≤_, _<_}
 use native.Mathlib.Omega.{arith}
@@ -29,8 +30,9 @@ use Rattle.unions.proofs.Standing.{standing-is, source-of, chunk-in}
 use Rattle.unions.proofs.Results.{same-last, result-dense}
 use Rattle.unions.proofs.DenseTurns.{dense-turn, dense-waits}
 use Rattle.unions.proofs.Rooms.{page-there, entry-there}
-use Rattle.unions.proofs.Partly.{Has, Alike, has-alike, Goes, goes-nowhere, Partly, partly-kinds, partly-next, partly-more}
-use Rattle.unions.proofs.Halfway.{halfway, dense-present, after-present, after-dense, half-present, half-dense, half-not, half-none, map-still, members-still}
+use Rattle.unions.proofs.Partly.{Has, Alike, has-alike, Goes, goes-nowhere, Partly, partly-kinds, partly-none, partly-next, partly-more}
+use Rattle.unions.proofs.Halfway.{halfway, dense-present, after-present, after-dense, half-present, half-dense}
+use Rattle.unions.proofs.Halfway.{half-not, half-none, map-still, members-still}
 
 -- ---- a turn's chunk, in memory of the same sizes and mode
 
@@ -49,7 +51,7 @@ pub kind-at : (z : Mem) (c : ℕ) (o : Place) → placeOf (head z) (z .table) c 
 unfolding kinds
 kind-at z c o e = ap kindOf e
 
-dense-placed : (x y : Mem) (o q : Place) → isDense x y o q ≡ true → isPlaced q ≡ true
+pub dense-placed : (x y : Mem) (o q : Place) → isDense x y o q ≡ true → isPlaced q ≡ true
 dense-placed x y o Absent d = absurd (let z : _≡_ {A = ℕ} 0 1 = cc in omega arith)
 dense-placed x y o (Sparse i k) d = refl
 dense-placed x y o (Dense p) d = refl
@@ -89,11 +91,13 @@ module _ {x y : Mem} (w : Follows x) (mode : ranked x ≡ false) (v : Follows y)
 
     under-present : (i : ℕ) → isPresent (kinds z i) ≡ true → isPresent (map i) ≡ true
     under-present =
-        partly-kinds s (λ (i : ℕ) (k : Kind). isPresent k ≡ true → isPresent (map i) ≡ true) (after-present (stateOf x) (stateOf y)) (half-present (stateOf x) (stateOf y))
+        partly-kinds s (λ (i : ℕ) (k : Kind). isPresent k ≡ true → isPresent (map i) ≡ true) (after-present (stateOf x) (stateOf y))
+        (half-present (stateOf x) (stateOf y))
 
     under-dense : (i : ℕ) → state.isDense (kinds z i) ≡ true → state.isDense (map i) ≡ true
     under-dense =
-        partly-kinds s (λ (i : ℕ) (k : Kind). state.isDense k ≡ true → state.isDense (map i) ≡ true) (after-dense (stateOf x) (stateOf y)) (half-dense (stateOf x) (stateOf y))
+        partly-kinds s (λ (i : ℕ) (k : Kind). state.isDense k ≡ true → state.isDense (map i) ≡ true) (after-dense (stateOf x) (stateOf y))
+        (half-dense (stateOf x) (stateOf y))
 
     -- ---- one that becomes dense
 
@@ -118,7 +122,7 @@ module _ {x y : Mem} (w : Follows x) (mode : ranked x ≡ false) (v : Follows y)
     takes (Sparse r k) m = lowest (pageOwner (head z) (z .table)) (head z .p) m
     takes (Dense p) m = refl
 
-    becoming : (o : Place) → placeOf (head z) (z .table) c ≡ o → isDense z y o q ≡ true → Goes z (densely z y c o q) c half
+    becoming : (o : Place) → placeOf (head z) (z .table) c ≡ o → isDense z y o q ≡ true → Goes dense z (densely z y c o q) c half
     becoming o at g =
         let p = page o at d in
         record {
@@ -126,6 +130,7 @@ module _ {x y : Mem} (w : Follows x) (mode : ranked x ≡ false) (v : Follows y)
           inside = λ (n : ℕ). offsets (head z) z o n || offsets (head y) y q n;
           becomes = dense-turn f (open-still x z (s .mode) mode) c far v shape o q at refl p (entry o at d) g;
           moves = subst (λ (i : Place). Moves z i (Dense (pageOf z o))) (sym at) (takes o p);
+          lands = inr refl;
           kind = sym (ap (λ (b : Bool). cond b dense (kinds x c)) d);
           members = λ n i.
               ap (λ (u : Place). offsets (head z) z u (n % top (head z)) || offsets (head y) y q (n % top (head z))) (sym at)
@@ -146,26 +151,26 @@ module _ {x y : Mem} (w : Follows x) (mode : ranked x ≡ false) (v : Follows y)
     alike (Sparse j k) a g = half-not x y c (sym (result (ap isPlaced a)) ∙ g)
     alike (Dense p) a g = half-not x y c (sym (result (ap isPlaced a)) ∙ g)
 
-    waiting : isDense z y (placeOf (head z) (z .table) c) q ≡ false → Goes z z c half
+    waiting : isDense z y (placeOf (head z) (z .table) c) q ≡ false → Goes dense z z c half
     waiting g = goes-nowhere f (has-alike has (subst (λ (h : Sizes). Alike h c (stateOf x) half) (sym (s .sizes)) (alike q refl g)))
 
-    by-places : Goes z (densely z y c (placeOf (head z) (z .table) c) q) c half
+    by-places : Goes dense z (densely z y c (placeOf (head z) (z .table) c) q) c half
     by-places = go (isDense z y (placeOf (head z) (z .table) c) q) refl
       where
-        go : (b : Bool) → isDense z y (placeOf (head z) (z .table) c) q ≡ b → Goes z (densely z y c (placeOf (head z) (z .table) c) q) c half
+        go : (b : Bool) → isDense z y (placeOf (head z) (z .table) c) q ≡ b → Goes dense z (densely z y c (placeOf (head z) (z .table) c) q) c half
         go true g = becoming (placeOf (head z) (z .table) c) refl g
-        go false g = subst (λ (n : Mem). Goes z n c half) (sym (dense-waits z y c (placeOf (head z) (z .table) c) q g)) (waiting g)
+        go false g = subst (λ (n : Mem). Goes dense z n c half) (sym (dense-waits z y c (placeOf (head z) (z .table) c) q g)) (waiting g)
 
-    pub first-turn : Goes z (densely z y (chunkOf y e) (standing z (chunkOf y e)) (source y e)) (chunkOf y e) half
+    pub first-turn : Goes dense z (densely z y (chunkOf y e) (standing z (chunkOf y e)) (source y e)) (chunkOf y e) half
     first-turn =
-        subst (λ (o : Place). Goes z (densely z y c o (source y e)) c half) (sym (standing-is (laid-walked f) c))
-        (subst (λ (i : Place). Goes z (densely z y c (placeOf (head z) (z .table) c) i) c half) (sym (source-of (laid-walked v) e l)) by-places)
+        subst (λ (o : Place). Goes dense z (densely z y c o (source y e)) c half) (sym (standing-is (laid-walked f) c))
+        (subst (λ (i : Place). Goes dense z (densely z y c (placeOf (head z) (z .table) c) i) c half) (sym (source-of (laid-walked v) e l)) by-places)
 
   -- ---- all of them
 
   pub first-pass : (e : ℕ) → e ≤ sourceEntries y → Partly x y (stateOf x) (halfway (stateOf x) (stateOf y)) e (denseTo x y e)
   unfolding denseTo
-  first-pass zero l = record { follows = w; sizes = refl; mode = refl; turned = λ j m. absurd (omega arith); waits = λ i none. record { kind = refl; members = λ n i. refl } }
+  first-pass zero l = partly-none w refl refl (λ i. record { kind = refl; members = λ n e. refl })
   first-pass (suc e) l = go (denseTo x y e) (first-pass e (omega arith))
     where
       go : (z : Mem) → Partly x y (stateOf x) half e z → Partly x y (stateOf x) half (suc e) (densely z y (chunkOf y e) (standing z (chunkOf y e)) (source y e))

@@ -12,3 +12,8 @@ pub mod FirstPass
 pub mod SecondPass
 pub mod Passes
 pub mod Kept
+pub mod Takes
+pub mod Accepted
+pub mod Entered
+pub mod Spares
+pub mod Said

@@ -1,10 +1,11 @@
 -- A pass over the source's entries: what holds of each chunk after some of them, and one more. Assumes nothing.
 use mathlib.Core.Path.{_≡_, refl, sym, ap, subst, _∙_}
 use mathlib.Core.Logic.{_⊎_, inl, inr, _≢_}
-use mathlib.Core.Bool.{Bool, cond}
+use mathlib.Core.Bool.{Bool, true, false, cond}
 use Prim.Native.Nat.{ℕ, suc, _/_, _%_, _<_}
 use native.Mathlib.Omega.{arith}
-use borrow.Author.Tests.{eq-eqb, ne-eqb}
+use lib.Dec.{eqb}
+use borrow.Author.Tests.{eqb-true, eq-eqb, ne-eqb}
 use Rattle.sums.specs.Ids.{Ids}
 use Rattle.sums.proofs.Sums.{last-or}
 use Rattle.document.specs.Sizes.{top}
@@ -45,30 +46,63 @@ alike-back a = record { kind = sym (a .kind); members = λ n e. sym (a .members 
 
 -- ---- one turn
 
--- chunk c alone moves, and is then as the set q has it; a row or page that it takes is the lowest free one
-pub record Goes (y z : Mem) (c : ℕ) (q : State) : Type 0 where
+-- chunk c alone moves, to a place of kind k, and is then as the set q has it; a row or page that it takes is the lowest free one
+pub record Goes (k : Kind) (y z : Mem) (c : ℕ) (q : State) : Type 0 where
   pub place : Place
   pub inside : Ids
   pub becomes : Becomes y z c place inside
   pub moves : Moves y (placeIn y c) place
+  pub lands : (place ≡ placeIn y c) ⊎ (kindOf place ≡ k)
   pub kind : kindOf place ≡ q .map c
   pub members : (n : ℕ) → n / top (head y) ≡ c → inside (n % top (head y)) ≡ q .members n
 
 -- it has its turn, and stays as it is
-pub goes-nowhere : {z : Mem} {c : ℕ} {q : State} → Follows z → Has z c q → Goes z z c q
+pub goes-nowhere : {k : Kind} {z : Mem} {c : ℕ} {q : State} → Follows z → Has z c q → Goes k z z c q
 unfolding holds kinds
-goes-nowhere {z} {c} w a = record {
+goes-nowhere {k} {z} {c} w a = record {
   place = placeOf (head z) (z .table) c;
   inside = offsets (head z) z (placeOf (head z) (z .table) c);
   becomes = becomes-same c (placeOf (head z) (z .table) c) w refl;
   moves = takes-none z c;
+  lands = inl refl;
   kind = a .kind;
   members = λ n e. ap (λ (i : ℕ). offsets (head z) z (placeOf (head z) (z .table) i) (n % top (head z))) (sym e) ∙ a .members n e;
 }
 
-module _ {y z : Mem} {c : ℕ} {q : State} (g : Goes y z c q) where
+kinds-of : (z : Mem) (i : ℕ) → kinds z i ≡ kindOf (placeIn z i)
+unfolding kinds
+kinds-of z i = refl
+
+module _ {k : Kind} {y z : Mem} {c : ℕ} {q : State} (g : Goes k y z c q) where
   pub goes-turn : Turn y z c
   goes-turn = turn-becomes (g .becomes) (g .moves)
+
+  -- it has the place that it had, or one of that kind
+  pub goes-lands : (i : ℕ) (p : Place) → (placeIn y i ≡ p) ⊎ (kinds y i ≡ k) → (placeIn z i ≡ p) ⊎ (kinds z i ≡ k)
+  goes-lands i p a = go (eqb i c) refl
+    where
+      b : Becomes y z c (g .place) (g .inside)
+      b = g .becomes
+
+      place-is : (t : Bool) → eqb i c ≡ t → placeIn z i ≡ cond t (g .place) (placeIn y i)
+      place-is t e = ap (λ (h : Sizes). placeOf h (z .table) i) (b .head-is) ∙ b .places-is i ∙ ap (λ (s : Bool). cond s (g .place) (placeIn y i)) e
+
+      kind-is : (t : Bool) → eqb i c ≡ t → kinds z i ≡ cond t (kindOf (g .place)) (kinds y i)
+      kind-is t e = b .kinds-is i ∙ ap (λ (s : Bool). cond s (kindOf (g .place)) (kinds y i)) e
+
+      kept : kinds z i ≡ kinds y i → placeIn z i ≡ placeIn y i → (placeIn y i ≡ p) ⊎ (kinds y i ≡ k) → (placeIn z i ≡ p) ⊎ (kinds z i ≡ k)
+      kept e f (inl q) = inl (f ∙ q)
+      kept e f (inr q) = inr (e ∙ q)
+
+      here : eqb i c ≡ true → (g .place ≡ placeIn y c) ⊎ (kindOf (g .place) ≡ k) → (placeIn z i ≡ p) ⊎ (kinds z i ≡ k)
+      here e (inl q) =
+          let same : placeIn z i ≡ placeIn y i = place-is true e ∙ q ∙ ap (placeIn y) (sym (eqb-true i c e)) in
+          kept (kinds-of z i ∙ ap kindOf same ∙ sym (kinds-of y i)) same a
+      here e (inr q) = inr (kind-is true e ∙ q)
+
+      go : (t : Bool) → eqb i c ≡ t → (placeIn z i ≡ p) ⊎ (kinds z i ≡ k)
+      go true e = here e (g .lands)
+      go false e = kept (kind-is false e) (place-is false e) a
 
   has-off : {i : ℕ} {p : State} → i ≢ c → Has y i p → Has z i p
   has-off {i} d a =
@@ -104,6 +138,10 @@ pub record Partly (x y : Mem) (from to : State) (e : ℕ) (z : Mem) : Type 0 whe
   pub turned : (j : ℕ) → j < e → Has z (chunkOf y j) to
   pub waits : (i : ℕ) → ((j : ℕ) → j < e → chunkOf y j ≢ i) → Has z i from
 
+pub partly-none : {x y : Mem} {from to : State} {z : Mem} → Follows z → head z ≡ head x → modeAt (z .table) ≡ modeAt (x .table) → ((i : ℕ) → Has z i from)
+    → Partly x y from to 0 z
+partly-none w sizes mode has = record { follows = w; sizes = sizes; mode = mode; turned = λ j m. absurd (omega arith); waits = λ i none. has i }
+
 module _ {x y : Mem} {from to : State} {e : ℕ} {z : Mem} (s : Partly x y from to e z) where
   -- what both sets say of kinds
   pub partly-kinds : (P : ℕ → Kind → Type 0) → ((i : ℕ) → P i (from .map i)) → ((i : ℕ) → P i (to .map i)) → (i : ℕ) → P i (kinds z i)
@@ -126,8 +164,8 @@ module _ {x y : Mem} {from to : State} {e : ℕ} {z : Mem} (s : Partly x y from 
     pub partly-next : Has z (chunkOf y e) from
     partly-next = s .waits (chunkOf y e) (λ j m k. let d = chunks-once v j e (omega arith) l k in omega arith)
 
-    pub partly-more : {n : Mem} → Goes z n (chunkOf y e) to → Partly x y from to (suc e) n
-    partly-more {n} g = record {
+    pub partly-more : {k : Kind} {n : Mem} → Goes k z n (chunkOf y e) to → Partly x y from to (suc e) n
+    partly-more {k} {n} g = record {
       follows = g .becomes .follows;
       sizes = g .becomes .head-is ∙ s .sizes;
       mode = g .becomes .mode-is ∙ s .mode;

@@ -17,7 +17,7 @@ use Rattle.layout.specs.Follows.{Follows}
 use Rattle.layout.specs.declared.place.Place.the-variants.{Absent}
 use Rattle.steps.proofs.Slots.{entry-none}
 use Rattle.unions.specs.Union.{chunkOf, sourceEntries, denseTo, unitedBy}
-use Rattle.unions.proofs.Partly.{Has, Alike, Partly, partly-all}
+use Rattle.unions.proofs.Partly.{Has, Alike, Partly, partly-none, partly-all}
 use Rattle.unions.proofs.Halfway.{halfway, half-none, all-none}
 use Rattle.unions.proofs.FirstPass.{first-pass}
 use Rattle.unions.proofs.SecondPass.{second-pass}
@@ -49,13 +49,7 @@ module _ {x y : Mem} (w : Follows x) (mode : ranked x ≡ false) (v : Follows y)
       (λ i none. subst (λ (h : Sizes). Alike h i (stateOf x) half) (sym (made-dense .sizes)) (half-none x y i same (lacks i none)))
 
   pub halfway-there : Partly x y (halfway (stateOf x) (stateOf y)) (united (stateOf x) (stateOf y) Done) 0 (denseTo x y (sourceEntries y))
-  halfway-there = record {
-    follows = made-dense .follows;
-    sizes = made-dense .sizes;
-    mode = made-dense .mode;
-    turned = λ j m. absurd (omega arith);
-    waits = λ i none. is-half i;
-  }
+  halfway-there = partly-none (made-dense .follows) (made-dense .sizes) (made-dense .mode) is-half
 
   -- ---- at the end
 

@@ -26,7 +26,7 @@ use Rattle.calls.proofs.Verdicts.{overflows-is, sparses-is, denses-is}
 
 -- ---- one more than is there
 
-count-under : (P Q : Ids) (c n : ℕ) → c < n → ((j : ℕ) → P j ≡ true → Q j ≡ true) → P c ≡ false → Q c ≡ true → count P n < count Q n
+pub count-under : (P Q : Ids) (c n : ℕ) → c < n → ((j : ℕ) → P j ≡ true → Q j ≡ true) → P c ≡ false → Q c ≡ true → count P n < count Q n
 count-under P Q c n l f p q =
     let a = count-change P more c n l (λ j m d. ap (λ (t : Bool). cond t true (P j)) (ne-eqb j c d)) in
     let b = count-imp more Q n (λ j. go j (eqb j c) refl) in

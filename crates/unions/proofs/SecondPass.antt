@@ -1,5 +1,6 @@
 -- The second pass: chunks whose result is sparse get there, dense ones are there already. Assumes nothing.
 use mathlib.Core.Path.{_≡_, refl, sym, ap, ap₂, subst, _∙_}
+use mathlib.Core.Logic.{inr}
 use mathlib.Core.Bool.{Bool, true, false, cond, _||_}
 use Prim.Native.Nat.{ℕ, zero, suc, _/_, _%_, _≤_, _<_}
 use native.Mathlib.Omega.{arith}
@@ -31,7 +32,8 @@ use Rattle.unions.proofs.Results.{result-kind}
 use Rattle.unions.proofs.SparseTurns.{copied-turn, rows-turn}
 use Rattle.unions.proofs.Rooms.{row-there, entry-there}
 use Rattle.unions.proofs.Partly.{Has, Alike, alike-back, has-alike, Goes, goes-nowhere, Partly, partly-kinds, partly-next, partly-more}
-use Rattle.unions.proofs.Halfway.{halfway, after-there, half-present, half-dense, half-clear, half-sparse, half-not, half-all, all-none, map-still, members-still}
+use Rattle.unions.proofs.Halfway.{halfway, after-there, half-present, half-dense, half-clear, half-sparse}
+use Rattle.unions.proofs.Halfway.{half-not, half-all, all-none, map-still, members-still}
 use Rattle.unions.proofs.FirstPass.{far-still, shape-still, open-still, kind-at}
 
 module _ (x : Mem) {y : Mem} (mode : ranked x ≡ false) (v : Follows y) (same : sameShape (head x) (head y) ≡ true)
@@ -71,7 +73,7 @@ module _ (x : Mem) {y : Mem} (mode : ranked x ≡ false) (v : Follows y) (same :
 
     -- ---- one that is there already
 
-    stays : Alike (head x) c half whole → Goes z z c whole
+    stays : Alike (head x) c half whole → Goes sparse z z c whole
     stays a = goes-nowhere f (has-alike has (subst (λ (h : Sizes). Alike h c half whole) (sym (s .sizes)) a))
 
     -- ---- one that becomes or stays sparse
@@ -110,13 +112,15 @@ module _ (x : Mem) {y : Mem} (mode : ranked x ≡ false) (v : Follows y) (same :
           ap₂ (λ (u j : Place). offsets (head z) z u (n % top (head z)) || offsets (head y) y j (n % top (head z))) (sym at) (sym from)
           ∙ members-still x y z same (s .sizes) c was n g
 
-    begins : (at : placeOf (head z) (z .table) c ≡ Absent) (i k : ℕ) → placeOf (head y) (y .table) c ≡ Sparse i k → Goes z (sparsely z y c Absent (Sparse i k)) c whole
+    begins : placeOf (head z) (z .table) c ≡ Absent → (i k : ℕ) → placeOf (head y) (y .table) c ≡ Sparse i k
+        → Goes sparse z (sparsely z y c Absent (Sparse i k)) c whole
     begins at i k from =
         record {
           place = Sparse (freeRow z) k;
           inside = offsets (head y) y (Sparse i k);
           becomes = copied-turn f (open-still x z (s .mode) mode) v shape c far i k from at there entry;
           moves = subst (λ (u : Place). Moves z u (Sparse (freeRow z) k)) (sym at) (lowest (rowOwner (head z) (z .table)) (head z .r) there);
+          lands = inr refl;
           kind = is;
           members = members Absent at refl i k from;
         }
@@ -134,8 +138,8 @@ module _ (x : Mem) {y : Mem} (mode : ranked x ≡ false) (v : Follows y) (same :
             entry-there f map c far under-present (subst (λ (h : Sizes). overflows h map ≤ h .v) (sym (s .sizes)) over) (ap isPresent (kind-at z c Absent at))
             (ap isPresent (sym is))
 
-    joins : (r m : ℕ) (at : placeOf (head z) (z .table) c ≡ Sparse r m) (i k : ℕ) → placeOf (head y) (y .table) c ≡ Sparse i k
-        → Goes z (sparsely z y c (Sparse r m) (Sparse i k)) c whole
+    joins : (r m : ℕ) → placeOf (head z) (z .table) c ≡ Sparse r m → (i k : ℕ) → placeOf (head y) (y .table) c ≡ Sparse i k
+        → Goes sparse z (sparsely z y c (Sparse r m) (Sparse i k)) c whole
     joins r m at i k from =
         record {
           place = Sparse r (length (rowsUnion z y r m i k));
@@ -143,11 +147,12 @@ module _ (x : Mem) {y : Mem} (mode : ranked x ≡ false) (v : Follows y) (same :
           becomes = rows-turn f (open-still x z (s .mode) mode) v shape c far i k from r m at
               (ltb-false (head z .m) (length (rowsUnion z y r m i k)) (stays-sparse (Sparse r m) at refl i k from));
           moves = subst (λ (u : Place). Moves z u (Sparse r (length (rowsUnion z y r m i k)))) (sym at) refl;
+          lands = inr refl;
           kind = sparse-is (Sparse r m) at refl i k from;
           members = members (Sparse r m) at refl i k from;
         }
 
-    by-places : (o q : Place) → placeOf (head z) (z .table) c ≡ o → placeOf (head y) (y .table) c ≡ q → Goes z (sparsely z y c o q) c whole
+    by-places : (o q : Place) → placeOf (head z) (z .table) c ≡ o → placeOf (head y) (y .table) c ≡ q → Goes sparse z (sparsely z y c o q) c whole
     by-places o Absent at from = stays (all-none x y c same from)
     by-places o (Dense p) at from = stays (half-all x y c (after-there (stateOf x) (stateOf y) c (ap state.isDense (kind-at y c (Dense p) from))))
     by-places Absent (Sparse i k) at from = begins at i k from
@@ -155,7 +160,7 @@ module _ (x : Mem) {y : Mem} (mode : ranked x ≡ false) (v : Follows y) (same :
     by-places (Dense p) (Sparse i k) at from =
         stays (half-all x y c (half-dense (stateOf x) (stateOf y) c (ap state.isDense (sym (has .kind) ∙ kind-at z c (Dense p) at))))
 
-    pub second-turn : Goes z (sparsely z y (chunkOf y e) (standing z (chunkOf y e)) (source y e)) (chunkOf y e) (united (stateOf x) (stateOf y) Done)
+    pub second-turn : Goes sparse z (sparsely z y (chunkOf y e) (standing z (chunkOf y e)) (source y e)) (chunkOf y e) (united (stateOf x) (stateOf y) Done)
     second-turn =
         by-places (standing z c) (source y e) (sym (standing-is (laid-walked f) c)) (sym (source-of (laid-walked v) e l))
 

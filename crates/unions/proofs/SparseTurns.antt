@@ -51,8 +51,8 @@ module _ {x : Mem} (w : Follows x) (c r l : ℕ) (e : placeOf (head x) (x .table
 
 -- ---- the turn
 
-module _ {x y : Mem} (w : Follows x) (mode : ranked x ≡ false) (v : Follows y) (same : sameShape (head x) (head y) ≡ true) (c : ℕ) (far : c < lastChunk (head x))
-    (i k : ℕ) (from : placeOf (head y) (y .table) c ≡ Sparse i k) where
+module _ {x y : Mem} (w : Follows x) (mode : ranked x ≡ false) (v : Follows y) (same : sameShape (head x) (head y) ≡ true)
+    (c : ℕ) (far : c < lastChunk (head x)) (i k : ℕ) (from : placeOf (head y) (y .table) c ≡ Sparse i k) where
   abbrev src : List ℕ
   src = rowPart (head y) (y .rows) i
 
@@ -139,7 +139,11 @@ module _ {x y : Mem} (w : Follows x) (mode : ranked x ≡ false) (v : Follows y)
     full-listed : Listed (head x) full size
     full-listed = record {
       below = λ j m. let a = full-at j m in let b = rows-below w v same c r l i k at from j m in omega arith;
-      rising = λ j m. let a = full-at j (omega arith) in let b = full-at (j + 1) m in let u = rows-rise w v same c r l i k at from j (j + 1) (omega arith) m in omega arith;
+      rising = λ j m.
+          (let a = full-at j (omega arith) in
+          let b = full-at (j + 1) m in
+          let u = rows-rise w v same c r l i k at from j (j + 1) (omega arith) m in
+          omega arith);
       rest = λ j m.
           (let g = least in
           let e : size + j ≡ l + (size + j - l) = omega arith in

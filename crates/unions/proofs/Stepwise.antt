@@ -124,7 +124,8 @@ becomes-then {x} {y} {z} {c} {q} {r} {os} {ps} a b = record {
       ∙ twice (eqb (n / top (head x)) c) (ps (n % top (head x))) (os (n % top (head x))) (holds x n);
   counts = λ g.
       (let s = subst
-      (λ (h : Sizes). count (λ (i : ℕ). g i (kinds z i)) (lastChunk h) + boolByte (g c (kinds y c)) ≡ count (λ (i : ℕ). g i (kinds y i)) (lastChunk h) + boolByte (g c (kindOf r)))
+      (λ (h : Sizes). count (λ (i : ℕ). g i (kinds z i)) (lastChunk h) + boolByte (g c (kinds y c))
+      ≡ count (λ (i : ℕ). g i (kinds y i)) (lastChunk h) + boolByte (g c (kindOf r)))
       (a .head-is) (b .counts g) in
       let t = a .counts g in
       let k = ap (λ (k : Kind). boolByte (g c k)) (kind-after a) in
