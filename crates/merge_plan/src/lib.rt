@@ -2,3 +2,4 @@
 pub mod judge;
 pub mod kind;
 pub mod place;
+pub mod plan;
