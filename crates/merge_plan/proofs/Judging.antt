@@ -1,14 +1,13 @@
 -- What judging counts, entry by entry, and the verdict on it. Assumes nothing.
-use mathlib.Core.Path.{_≡_, refl, sym, _∙_, ap, ap₂}
+use mathlib.Core.Path.{_≡_, sym, _∙_, ap, ap₂}
 use mathlib.Core.List.{List}
-use mathlib.Core.Bool.{Bool, true, false, cond, not, _&&_, _||_}
+use mathlib.Core.Bool.{Bool, false, cond, not, _&&_, _||_}
 use Prim.Native.Nat.{ℕ, _+_, _-_, _≤_, _<_}
 use native.Mathlib.Omega.{arith}
 use lib.Dec.{leb, ltb, eqb}
 use mir.Syntax.{w64}
 use mir.Val.{Fits, boolByte}
 use borrow.Author.Tests.{lt-ltb, le-ltb}
-use Rattle.sums.specs.Ids.{count}
 use Rattle.sums.proofs.Counts.{byte-le, count-zero, count-next, count-le}
 use Rattle.document.specs.Refusals.{overflow-full, rows-full, pages-full}
 use Rattle.document.specs.declared.sizes.Sizes.{Sizes}
@@ -20,7 +19,7 @@ use Rattle.layout.specs.Places.{hasRow, hasPage, rowOwner, pageOwner}
 use Rattle.layout.specs.Tests.{rowsOwned, pagesOwned}
 use Rattle.layout.specs.declared.place.Place.{Place}
 use Rattle.unions.specs.Union.{standing, source, chunkOf, sourceEntries, isDense, newEntry, newRow, freedRow, newPage, overAfter, rowsAfter, pagesAfter, judged}
-use Rattle.merge_plan.specs.Judging.{Sound, Small, withChunk, growthTo}
+use Rattle.merge_plan.specs.Judging.{Passed, Small, withChunk, growthTo}
 use Rattle.merge_plan.specs.declared.judge.Growth.{Growth}
 
 -- ---- one chunk
@@ -57,7 +56,7 @@ module _ (n : Growth) (h : Sizes) (c : ℕ) (o q : Place) (dense : Bool) where
   chunk-grown row page srow spage er ep es et = λ i. byTests (er i) (ep i) (es i) (et i)
 
 -- what there is
-pub owned-small : (t : List ℕ) (h : Sizes) → {rows : List ℕ} → Sound h rows t → (rowsOwned h t ≤ 65536) × (pagesOwned h t ≤ 65536)
+pub owned-small : (t : List ℕ) (h : Sizes) → {rows : List ℕ} → Passed h rows t → (rowsOwned h t ≤ 65536) × (pagesOwned h t ≤ 65536)
 owned-small t h s = (
   omega (arith, s .sizes .r-high, count-le (λ (r : ℕ). not (eqb (rowOwner h t r) 0)) (h .r)),
   omega (arith, s .sizes .p-high, count-le (λ (p : ℕ). not (eqb (pageOwner h t p) 0)) (h .p)),

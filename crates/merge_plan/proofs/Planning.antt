@@ -18,13 +18,13 @@ use Rattle.layout.specs.Tests.{Walked, walked}
 use Rattle.layout.proofs.Tests.{walked-of}
 use Rattle.unions.specs.Union.{barredBy, judged, unionPlan}
 use Rattle.unions.proofs.Standing.{chunk-in}
-use Rattle.merge_plan.specs.Judging.{Sound}
+use Rattle.merge_plan.specs.Judging.{Passed}
 use Rattle.merge_plan.specs.Planning.{planWalked}
 
 -- ---- a side that passed the walk
 
-walked-sound : {x : Mem} → Walked x (head x) → Sound (head x) (x .rows) (x .table)
-walked-sound {x} w = record {
+walked-passed : {x : Mem} → Walked x (head x) → Passed (head x) (x .rows) (x .table)
+walked-passed {x} w = record {
   sizes = w .sizes;
   header = refl;
   in-rows = w .room .in-rows;
@@ -34,8 +34,8 @@ walked-sound {x} w = record {
       omega (arith, chunk-in w e l);
 }
 
-pub sound : (x : Mem) (a : Bool) → a ≡ walked x → not a ≡ false → Sound (head x) (x .rows) (x .table)
-sound x a e n = walked-sound (walked-of x .sound (sym e ∙ not-false a n))
+pub passed : (x : Mem) (a : Bool) → a ≡ walked x → not a ≡ false → Passed (head x) (x .rows) (x .table)
+passed x a e n = walked-passed (walked-of x .sound (sym e ∙ not-false a n))
 
 -- ---- 4, then 10
 

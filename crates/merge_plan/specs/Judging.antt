@@ -18,7 +18,7 @@ use Rattle.unions.specs.Union.{isPlaced, newEntry, newRow, freedRow, newPage}
 use Rattle.merge_plan.specs.declared.judge.Growth.{Growth}
 
 -- a side that passed the walk, by its sizes, its rows and its table
-pub record Sound (h : Sizes) (rows t : List ℕ) : Type 0 where
+pub record Passed (h : Sizes) (rows t : List ℕ) : Type 0 where
   pub sizes : InRange h
   pub header : h ≡ headerAt t
   pub in-rows : h .r * h .m ≤ length rows
@@ -29,18 +29,13 @@ pub record Sound (h : Sizes) (rows t : List ℕ) : Type 0 where
 abbrev pub OnAny : List ℕ → List ℕ → List ℕ → List ℕ → (Mem → Mem → Type 0) → Type 0
 OnAny rows t srows st P = (p b u v : List ℕ) → P (mem p rows b t) (mem u srows v st)
 
--- how the map grows by the source's first n entries
+-- ---- how the map grows
+
+-- by the source's first n entries
 unfoldable pub growthTo : Mem → Mem → ℕ → Growth
 growthTo x y n = record { entries = count (newEntry x y) n; rows = count (newRow x y) n; freed = count (freedRow x y) n; pages = count (newPage x y) n }
 
--- one that every count of entries is within
-pub record Small (n : Growth) : Type 0 where
-  pub entries : n .entries ≤ 327680
-  pub rows : n .rows ≤ 327680
-  pub freed : n .freed ≤ 327680
-  pub pages : n .pages ≤ 327680
-
--- and by chunk c, at o here and at q there, whose union is dense or not
+-- by n, and by chunk c, at o here and at q there, whose union is dense or not
 abbrev pub withChunk : Growth → Sizes → ℕ → Place → Place → Bool → Growth
 withChunk n h c o q dense = record {
   entries = n .entries + boolByte (isPlaced q && (leb (h .d) c && not (isPlaced o)));
@@ -48,3 +43,10 @@ withChunk n h c o q dense = record {
   freed = n .freed + boolByte (dense && hasRow o);
   pages = n .pages + boolByte (dense && not (hasPage o));
 }
+
+-- no more than a memory has entries
+pub record Small (n : Growth) : Type 0 where
+  pub entries : n .entries ≤ 327680
+  pub rows : n .rows ≤ 327680
+  pub freed : n .freed ≤ 327680
+  pub pages : n .pages ≤ 327680

@@ -4,7 +4,7 @@ ghost use Prim.Native.Nat.{_+_, _<_};
 ghost use Rattle.layout.specs.Mem.{Mem};
 ghost use Rattle.layout.specs.Entries.{entries};
 ghost use Rattle.unions.specs.Union.{sourceEntries, judged};
-ghost use Rattle.merge_plan.specs.Judging.{Sound, OnAny, Small, withChunk, growthTo};
+ghost use Rattle.merge_plan.specs.Judging.{Passed, OnAny, Small, withChunk, growthTo};
 use crate::kind;
 use crate::place as places;
 use document::answer::Outcome;
@@ -25,7 +25,7 @@ pub struct Growth {
     pub pages: u64,
 }
 
-// And by chunk c, at o here and at q there.
+// By n, and by chunk c, at o here and at q there.
 fn with_chunk(n: Growth, h: Sizes, c: u64, o: Place, q: Place, dense: bool) -> Growth
     requires { ⌜ Small n ⌝ }
     ensures { λ k. ⌜ k ≡ withChunk n h c o q dense ⌝ }
@@ -42,7 +42,7 @@ fn with_chunk(n: Growth, h: Sizes, c: u64, o: Place, q: Place, dense: bool) -> G
     }
 }
 
-// Entry e of the source, where n are the entries before it.
+// By the source's entries up to e, where it grows by n before that.
 fn with_entry(
     rows: &[u32],
     table: &[u64],
@@ -53,7 +53,7 @@ fn with_entry(
     e: u64,
     n: Growth,
 ) -> Growth
-    requires { ⌜ Sound h (now rows) (now table) × Sound g (now srows) (now stable) × (e < entries g (now stable))
+    requires { ⌜ Passed h (now rows) (now table) × Passed g (now srows) (now stable) × (e < entries g (now stable))
         × OnAny (now rows) (now table) (now srows) (now stable) (λ (x y : Mem). n ≡ growthTo x y e) ⌝ }
     ensures { λ k. ⌜ OnAny (now (rows .entry)) (now (table .entry)) (now (srows .entry)) (now (stable .entry))
         (λ (x y : Mem). k ≡ growthTo x y (e + 1)) ⌝ }
@@ -64,9 +64,9 @@ fn with_entry(
     with_chunk(n, h, c, o, q, kind::is_dense(rows, h, o, srows, g, q))
 }
 
-// All entries of the source.
+// By all of the source's entries.
 fn grown(rows: &[u32], table: &[u64], h: Sizes, srows: &[u32], stable: &[u64], g: Sizes) -> Growth
-    requires { ⌜ Sound h (now rows) (now table) × Sound g (now srows) (now stable) ⌝ }
+    requires { ⌜ Passed h (now rows) (now table) × Passed g (now srows) (now stable) ⌝ }
     ensures { λ k. ⌜ OnAny (now (rows .entry)) (now (table .entry)) (now (srows .entry)) (now (stable .entry))
         (λ (x y : Mem). k ≡ growthTo x y (sourceEntries y)) ⌝ }
 {
@@ -94,7 +94,7 @@ pub fn judge(
     stable: &[u64],
     g: Sizes,
 ) -> Outcome
-    requires { ⌜ Sound h (now rows) (now table) × Sound g (now srows) (now stable) ⌝ }
+    requires { ⌜ Passed h (now rows) (now table) × Passed g (now srows) (now stable) ⌝ }
     ensures { λ r. ⌜ OnAny (now (rows .entry)) (now (table .entry)) (now (srows .entry)) (now (stable .entry))
         (λ (x y : Mem). r ≡ judged x y) ⌝ }
 {

@@ -5,7 +5,7 @@ ghost use Rattle.document.specs.Union.{merge-from, merge};
 ghost use Rattle.layout.specs.Mem.{Mem, memOf};
 ghost use Rattle.layout.specs.Sizes.{headerAt};
 ghost use Rattle.unions.specs.Union.{unionPlan};
-ghost use Rattle.merge_plan.specs.Judging.{Sound, OnAny};
+ghost use Rattle.merge_plan.specs.Judging.{Passed, OnAny};
 ghost use Rattle.merge_plan.specs.Planning.{planWalked};
 use crate::judge;
 use document::answer::Outcome;
@@ -15,7 +15,7 @@ use layout_walk::walk;
 
 // Past the walks: 4, then 10, then 6, 7, 8.
 fn plan_walked(rows: &[u32], table: &[u64], srows: &[u32], stable: &[u64], both: bool) -> Outcome
-    requires { ⌜ Sound (headerAt (now table)) (now rows) (now table) × Sound (headerAt (now stable)) (now srows) (now stable) ⌝ }
+    requires { ⌜ Passed (headerAt (now table)) (now rows) (now table) × Passed (headerAt (now stable)) (now srows) (now stable) ⌝ }
     ensures { λ r. ⌜ OnAny (now (rows .entry)) (now (table .entry)) (now (srows .entry)) (now (stable .entry))
         (λ (x y : Mem). r ≡ planWalked x y (cond both merge merge-from)) ⌝ }
 {

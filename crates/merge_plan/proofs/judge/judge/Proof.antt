@@ -1,10 +1,11 @@
 -- 6, 7, 8, each beside what there is. Assumes nothing.
 use mathlib.Core.Path.{ap}
 use mathlib.Core.List.{List, []}
-use Prim.Native.Nat.{ℕ}
+use Prim.Native.Nat.{ℕ, _≤_}
 use native.Mathlib.Omega.{arith}
 use Rattle.document.specs.declared.sizes.Sizes.{Sizes}
 use Rattle.layout.specs.Mem.{Mem, mem}
+use Rattle.layout.specs.Tests.{rowsOwned, pagesOwned}
 use Rattle.unions.specs.Union.{sourceEntries}
 use Rattle.merge_plan.specs.Judging.{Small}
 use Rattle.merge_plan.proofs.Judging.{grown-small, owned-small, judge-six, judge-seven, judge-eight, judge-done}
@@ -28,6 +29,9 @@ module _ (c : tie.After-grown) where
       grown-small (here [] []) (there [] []) (sourceEntries (there [] [])) _ (c .grown .ensures [] [] [] [])
       (omega (arith, s .sizes .d-high, s .over, ap (λ (g : Sizes). g .d) (s .header)))
 
+  owned : let a = start .args in (rowsOwned (a .h) (a .table .now) ≤ 65536) × (pagesOwned (a .h) (a .table .now) ≤ 65536)
+  owned = owned-small (start .args .table .now) (start .args .h) (start .pre .0)
+
 grown-requires : tie.Need-grown-requires
 grown-requires c κs = search needs
 
@@ -39,54 +43,60 @@ add-if1 c = let k = c .before .before in omega (arith, small k .entries, c .befo
 
 returns : tie.Need-returns
 returns c =
-    let k = c .before .before .before .before in
+    let o = c .before .before .before in
+    let k = o .before in
     let s = start k in
-    λ p b u v. judge-six (here k p b) (there k u v) (s .args .h) (s .pre .0 .header) _ (k .grown .ensures p b u v) _ (c .before .before .before .over-count .ensures) (c .if1 .taken)
+    λ p b u v.
+    judge-six (here k p b) (there k u v) (s .args .h) (s .pre .0 .header) _ (k .grown .ensures p b u v) _ (o .over-count .ensures) (c .if1 .taken)
 
 rows-owned-requires : tie.Need-rows-owned-requires
 rows-owned-requires c κs = search needs
 
 add-minus : tie.Need-add-minus
-add-minus c =
-    let k = c .before .before .before .before .before .before in
-    omega (arith, small k .rows, owned-small (start k .args .table .now) (start k .args .h) (start k .pre .0) .0, c .before .rows-owned .ensures)
+add-minus c = let k = c .before .before .before .before .before .before in omega (arith, small k .rows, owned k .0, c .before .rows-owned .ensures)
 
 minus-requires : tie.Need-minus-requires
 minus-requires c κs = search needs
 
 returns-2 : tie.Need-returns-2
 returns-2 c =
-    let k = c .before .before .before .before .before .before .before .before .before in
+    let r = c .before .before .before .before in
+    let o = r .before .before .before .before in
+    let k = o .before in
     let s = start k in
     λ p b u v.
-    judge-seven (here k p b) (there k u v) (s .args .h) (s .pre .0 .header) _ (k .grown .ensures p b u v) _ (c .before .before .before .before .before .before .before .before .over-count .ensures)
-    (c .before .before .before .before .before .if1 .left) _ (c .before .before .before .before .rows-owned .ensures) _ (c .before .before .minus .ensures) (c .if2 .taken)
+    judge-seven (here k p b) (there k u v) (s .args .h) (s .pre .0 .header) _ (k .grown .ensures p b u v) _ (o .over-count .ensures)
+    (r .before .if1 .left) _ (r .rows-owned .ensures) _ (c .before .before .minus .ensures) (c .if2 .taken)
 
 pages-owned-requires : tie.Need-pages-owned-requires
 pages-owned-requires c κs = search needs
 
 add-if3 : tie.Need-add-if3
-add-if3 c =
-    let k = c .before .before .before .before .before .before .before .before .before .before .before in
-    omega (arith, small k .pages, owned-small (start k .args .table .now) (start k .args .h) (start k .pre .0) .1, c .before .pages-owned .ensures)
+add-if3 c = let k = c .before .before .before .before .before .before .before .before .before .before .before in omega (arith, small k .pages, owned k .1, c .before .pages-owned .ensures)
 
 returns-3 : tie.Need-returns-3
 returns-3 c =
-    let k = c .before .before .before .before .before .before .before .before .before .before .before .before .before in
+    let g = c .before .before .before in
+    let m = g .before .before .before in
+    let r = m .before .before in
+    let o = r .before .before .before .before in
+    let k = o .before in
     let s = start k in
     λ p b u v.
-    judge-eight (here k p b) (there k u v) (s .args .h) (s .pre .0 .header) _ (k .grown .ensures p b u v) _ (c .before .before .before .before .before .before .before .before .before .before .before .before .over-count .ensures)
-    (c .before .before .before .before .before .before .before .before .before .if1 .left) _ (c .before .before .before .before .before .before .before .before .rows-owned .ensures) _ (c .before .before .before .before .before .before .minus .ensures) (c .before .before .before .before .if2 .left) _
-    (c .before .before .before .pages-owned .ensures) (c .if3 .taken)
+    judge-eight (here k p b) (there k u v) (s .args .h) (s .pre .0 .header) _ (k .grown .ensures p b u v) _ (o .over-count .ensures)
+    (r .before .if1 .left) _ (r .rows-owned .ensures) _ (m .minus .ensures) (g .before .if2 .left) _ (g .pages-owned .ensures) (c .if3 .taken)
 
 returns-4 : tie.Need-returns-4
 returns-4 c =
-    let k = c .before .before .before .before .before .before .before .before .before .before .before .before .before in
+    let g = c .before .before .before in
+    let m = g .before .before .before in
+    let r = m .before .before in
+    let o = r .before .before .before .before in
+    let k = o .before in
     let s = start k in
     λ p b u v.
-    judge-done (here k p b) (there k u v) (s .args .h) (s .pre .0 .header) _ (k .grown .ensures p b u v) _ (c .before .before .before .before .before .before .before .before .before .before .before .before .over-count .ensures)
-    (c .before .before .before .before .before .before .before .before .before .if1 .left) _ (c .before .before .before .before .before .before .before .before .rows-owned .ensures) _ (c .before .before .before .before .before .before .minus .ensures) (c .before .before .before .before .if2 .left) _
-    (c .before .before .before .pages-owned .ensures) (c .if3 .left)
+    judge-done (here k p b) (there k u v) (s .args .h) (s .pre .0 .header) _ (k .grown .ensures p b u v) _ (o .over-count .ensures)
+    (r .before .if1 .left) _ (r .rows-owned .ensures) _ (m .minus .ensures) (g .before .if2 .left) _ (g .pages-owned .ensures) (c .if3 .left)
 
 pub judge-spec : {M : Type 1} → statement M
 judge-spec =

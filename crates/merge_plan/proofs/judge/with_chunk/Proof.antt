@@ -1,17 +1,28 @@
 -- Four sums of a count and a yes or no. Assumes nothing.
+use mathlib.Core.Bool.{Bool}
 use Rattle.merge_plan.proofs.Judging.{Fitting, byTests, chunk-fits, chunk-grown}
 use borrow.Author.Needs.{needs}
 use Rattle.merge_plan.proofs.judge.with_chunk.Statement.{statement}
 use Rattle.merge_plan.proofs.judge.with_chunk.Tie as tie
 
-fitting : (c : tie.After-has-page2)
-    → let a = c .before .before .before .before .args in
-    Fitting (byTests (a .n) (a .h) (a .c) (a .o) (a .q) (a .dense) (c .before .before .before .has-row .result) (c .before .before .has-page .result) (c .before .has-row2 .result) (c .has-page2 .result))
-fitting c =
-    let s = c .before .before .before .before in
-    let a = s .args in
-    chunk-fits (a .n) (a .h) (a .c) (a .o) (a .q) (a .dense) (s .pre) (c .before .before .before .has-row .result) (c .before .before .has-page .result)
-    (c .before .has-row2 .result) (c .has-page2 .result)
+module _ (c : tie.After-has-page2) where
+  abbrev start : tie.Start
+  start = c .before .before .before .before
+
+  abbrev row : Bool
+  row = c .before .before .before .has-row .result
+
+  abbrev page : Bool
+  page = c .before .before .has-page .result
+
+  abbrev source-row : Bool
+  source-row = c .before .has-row2 .result
+
+  abbrev source-page : Bool
+  source-page = c .has-page2 .result
+
+  fitting : let a = start .args in Fitting (byTests (a .n) (a .h) (a .c) (a .o) (a .q) (a .dense) row page source-row source-page)
+  fitting = let a = start .args in chunk-fits (a .n) (a .h) (a .c) (a .o) (a .q) (a .dense) (start .pre) row page source-row source-page
 
 has-row-requires : tie.Need-has-row-requires
 has-row-requires c κs = search needs
@@ -51,9 +62,10 @@ add-t27 c = fitting (c .before .before .before .before .before) .pages
 
 returns : tie.Need-returns
 returns c =
-    let a = c .before .before .before .before .before .before .before .before .before .args in
-    chunk-grown (a .n) (a .h) (a .c) (a .o) (a .q) (a .dense) _ _ _ _ (c .before .before .before .before .before .before .before .before .has-row .ensures) (c .before .before .before .before .before .before .before .has-page .ensures)
-    (c .before .before .before .before .before .before .has-row2 .ensures) (c .before .before .before .before .before .has-page2 .ensures)
+    let k = c .before .before .before .before .before in
+    let a = start k .args in
+    chunk-grown (a .n) (a .h) (a .c) (a .o) (a .q) (a .dense) _ _ _ _ (k .before .before .before .has-row .ensures) (k .before .before .has-page .ensures)
+    (k .before .has-row2 .ensures) (k .has-page2 .ensures)
 
 pub with-chunk-spec : {M : Type 1} → statement M
 with-chunk-spec =

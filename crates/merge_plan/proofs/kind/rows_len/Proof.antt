@@ -21,10 +21,16 @@ module _ (c : tie.After-row-at2) where
   there = let a = start .args in row-in (a .g) (a .srows .now) (a .i) (a .k) (start .pre .1) _ (c .row-at2 .ensures)
 
 row-at-requires : tie.Need-row-at-requires
-row-at-requires c κs = let s = c .before .before in (s .pre .0 .sizes, row-small (s .args .h) (s .args .rows .now) (s .args .r) (s .args .l) (s .pre .0))
+row-at-requires c κs =
+    let s = c .before .before in
+    let a = s .args in
+    (s .pre .0 .sizes, row-small (a .h) (a .rows .now) (a .r) (a .l) (s .pre .0))
 
 row-at-requires-2 : tie.Need-row-at-requires-2
-row-at-requires-2 c κs = let s = c .before .before .before in (s .pre .1 .sizes, row-small (s .args .g) (s .args .srows .now) (s .args .i) (s .args .k) (s .pre .1))
+row-at-requires-2 c κs =
+    let s = c .before .before .before in
+    let a = s .args in
+    (s .pre .1 .sizes, row-small (a .g) (a .srows .now) (a .i) (a .k) (s .pre .1))
 
 add-e : tie.Need-add-e
 add-e c = omega (arith, here c, start c .good)

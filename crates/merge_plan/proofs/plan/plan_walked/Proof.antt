@@ -4,7 +4,7 @@ use mathlib.Core.List.{List}
 use Prim.Native.Nat.{ℕ}
 use Rattle.document.specs.declared.sizes.Sizes.{Sizes}
 use Rattle.layout.specs.Mem.{Mem, mem}
-use Rattle.merge_plan.specs.Judging.{Sound}
+use Rattle.merge_plan.specs.Judging.{Passed}
 use Rattle.merge_plan.proofs.Planning.{plan-four, plan-ten, plan-judged}
 use borrow.Author.Needs.{needs}
 use Rattle.merge_plan.proofs.plan.plan_walked.Statement.{statement}
@@ -39,24 +39,29 @@ read-requires-2 c κs = search needs
 
 returns-2 : tie.Need-returns-2
 returns-2 c =
-    let k = c .before .before .before .before .before .before .before .before in
+    let g = c .before .before .before .before .before in
+    let i = g .before .before in
+    let k = i .before in
     λ p b u v.
-    plan-ten (here k p b) (there k u v) (start k .args .both) _ _ (k .before .mode .ensures) (k .mode2 .ensures) (c .before .before .before .before .before .before .before .if1 .left) _ _
-    (c .before .before .before .before .before .before .read .ensures) (c .before .before .before .before .before .read2 .ensures) (c .if2 .taken)
+    plan-ten (here k p b) (there k u v) (start k .args .both) _ _ (k .before .mode .ensures) (k .mode2 .ensures) (i .if1 .left) _ _
+    (g .before .read .ensures) (g .read2 .ensures) (c .if2 .taken)
 
 judge-requires : tie.Need-judge-requires
 judge-requires c κs =
-    let s = start (c .before .before .before .before .before .before .before .before) in (
-      subst (λ (h : Sizes). Sound h (s .args .rows .now) (s .args .table .now)) (sym (c .before .before .before .before .before .before .read .ensures)) (s .pre .0),
-      subst (λ (g : Sizes). Sound g (s .args .srows .now) (s .args .stable .now)) (sym (c .before .before .before .before .before .read2 .ensures)) (s .pre .1),
+    let g = c .before .before .before .before .before in
+    let s = start (g .before .before .before) in (
+      subst (λ (h : Sizes). Passed h (s .args .rows .now) (s .args .table .now)) (sym (g .before .read .ensures)) (s .pre .0),
+      subst (λ (h : Sizes). Passed h (s .args .srows .now) (s .args .stable .now)) (sym (g .read2 .ensures)) (s .pre .1),
     )
 
 returns-3 : tie.Need-returns-3
 returns-3 c =
-    let k = c .before .before .before .before .before .before .before .before .before in
+    let g = c .before .before .before .before .before .before in
+    let i = g .before .before in
+    let k = i .before in
     λ p b u v.
-    plan-judged (here k p b) (there k u v) (start k .args .both) _ _ (k .before .mode .ensures) (k .mode2 .ensures) (c .before .before .before .before .before .before .before .before .if1 .left) _ _
-    (c .before .before .before .before .before .before .before .read .ensures) (c .before .before .before .before .before .before .read2 .ensures) (c .before .if2 .left) _ (c .judge .ensures p b u v)
+    plan-judged (here k p b) (there k u v) (start k .args .both) _ _ (k .before .mode .ensures) (k .mode2 .ensures) (i .if1 .left) _ _
+    (g .before .read .ensures) (g .read2 .ensures) (c .before .if2 .left) _ (c .judge .ensures p b u v)
 
 pub plan-walked-spec : {M : Type 1} → statement M
 plan-walked-spec =

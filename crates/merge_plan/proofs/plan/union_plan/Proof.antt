@@ -2,7 +2,7 @@
 use mathlib.Core.Bool.{cond}
 use Rattle.document.specs.Union.{Join, merge-from, merge}
 use Rattle.layout.specs.Mem.{Mem, memOf}
-use Rattle.merge_plan.proofs.Planning.{sound, plan-three, plan-three-there, plan-rest}
+use Rattle.merge_plan.proofs.Planning.{passed, plan-three, plan-three-there, plan-rest}
 use borrow.Author.Needs.{needs}
 use Rattle.merge_plan.proofs.plan.union_plan.Statement.{statement}
 use Rattle.merge_plan.proofs.plan.union_plan.Tie as tie
@@ -37,13 +37,14 @@ returns-2 c =
 plan-walked-requires : tie.Need-plan-walked-requires
 plan-walked-requires c κs =
     let k = c .before .before .before in
-    (sound (here k) _ (k .walk .ensures) (c .before .before .if1 .left), sound (there k) _ (c .before .walk2 .ensures) (c .if2 .left))
+    (passed (here k) _ (k .walk .ensures) (c .before .before .if1 .left), passed (there k) _ (c .before .walk2 .ensures) (c .if2 .left))
 
 returns-3 : tie.Need-returns-3
 returns-3 c =
-    let k = c .before .before .before .before in
+    let w = c .before .before in
+    let k = w .before .before in
     let a = start k .args in
-    plan-rest (here k) (there k) (join k) _ (k .walk .ensures) (c .before .before .before .if1 .left) _ (c .before .before .walk2 .ensures) (c .before .if2 .left) _
+    plan-rest (here k) (there k) (join k) _ (k .walk .ensures) (w .before .if1 .left) _ (w .walk2 .ensures) (c .before .if2 .left) _
     (c .plan-walked .ensures (a .pages .now) (a .blocks .now) (a .spages .now) (a .sblocks .now))
 
 pub union-plan-spec : {M : Type 1} → statement M
