@@ -1,0 +1,4 @@
+pub mod Stands
+pub mod Dense
+pub mod Judging
+pub mod Planning
