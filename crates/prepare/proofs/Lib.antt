@@ -1,4 +1,3 @@
-pub mod Fills
 pub mod ChunkTurn
 pub mod Cursor
 pub mod Steady
