@@ -3,6 +3,7 @@ pub mod Readings
 pub mod Counting
 pub mod Refusals
 pub mod FirstFree
+pub mod Cursor
 pub mod Slots
 pub mod Verdicts
 pub mod RowEdits

@@ -1,4 +1,3 @@
 pub mod ChunkTurn
-pub mod Cursor
 pub mod Steady
 pub mod PreparePlans

@@ -144,6 +144,11 @@ module _ (h : Sizes) (x : Mem) (W : Walked x h) (c r l : ℕ) (row : List ℕ) (
         pages-used = pages-count;
       }
 
+  -- every other row has the owner that it had
+  pub rowed-owner : (j : ℕ) → j ≢ r → rowOwner h (rowed h x c r l row .table) j ≡ rowOwner h (x .table) j
+  unfolding y
+  rowed-owner = row-off
+
   -- ---- where rows are listed and free slots hold zeros
 
   module _ (L : Laid x h) (listed : Listed h row l) where
