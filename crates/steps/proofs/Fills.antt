@@ -26,7 +26,7 @@ fill-put pages rows h r p l i j k ei ej ek ys f =
     (ap (λ (n : ℕ). take n (drop i rows)) (span i (h .m)) ∙ ap (λ (n : ℕ). take (h .m) (drop n rows)) ei)
 
 -- a part put back where it was
-put-back : (xs : List ℕ) (a n : ℕ) → putPart xs a n (take n (drop a xs)) ≡ xs
+pub put-back : (xs : List ℕ) (a n : ℕ) → putPart xs a n (take n (drop a xs)) ≡ xs
 unfolding putPart
 put-back xs a n =
     ap (λ (u : List ℕ). take a xs ++ (take n (drop a xs) ++ u)) (sym (drop-drop n a xs))
