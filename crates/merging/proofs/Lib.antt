@@ -1,1 +1,4 @@
 pub mod Lent
+pub mod Heads
+pub mod Rows
+pub mod Pages

@@ -27,6 +27,16 @@ pub record RowPools (h g : Sizes) (rows srows : ℕ) : Type 0 where
   pub in-rows : h .r * h .m ≤ rows
   pub from-rows : g .r * g .m ≤ srows
 
+-- chunk c of the destination, at o until now, into page p
+pub record Into (h : Sizes) (pages rows : ℕ) (t : List ℕ) (c : ℕ) (o : Place) (p : ℕ) : Type 0 where
+  pub sizes : InRange h
+  pub in-pages : h .p * wide h ≤ pages
+  pub in-rows : h .r * h .m ≤ rows
+  pub over : overCount t ≤ 65536
+  pub chunk : c < 2 ^ 62
+  pub here : fits h o ≡ true
+  pub page : p < h .p
+
 -- chunk c at o in the destination's table, at q in the source: both are the sizes'
 pub record Turn (h g : Sizes) (t : List ℕ) (c : ℕ) (o q : Place) : Type 0 where
   pub header : h ≡ headerAt t
