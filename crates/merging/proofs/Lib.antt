@@ -2,3 +2,5 @@ pub mod Lent
 pub mod Heads
 pub mod Rows
 pub mod Pages
+pub mod Turns
+pub mod Ways

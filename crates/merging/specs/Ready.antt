@@ -58,4 +58,4 @@ abbrev pub Sound : List ℕ → List ℕ → List ℕ → List ℕ → List ℕ 
 Sound pages rows t spages srows st = (b : List ℕ) × (b′ : List ℕ) × Joins (mem pages rows b t) (mem spages srows b′ st)
 
 abbrev pub RowsSound : List ℕ → List ℕ → List ℕ → List ℕ → Type 0
-RowsSound rows t srows st = (p : List ℕ) × (p′ : List ℕ) × Sound p rows t p′ srows st
+RowsSound rows t srows st = (p : List ℕ) × (p′ : List ℕ) × (b : List ℕ) × (b′ : List ℕ) × Joins (mem p rows b t) (mem p′ srows b′ st)
