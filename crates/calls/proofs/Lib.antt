@@ -8,6 +8,7 @@ pub mod IterationEntries
 pub mod Iterations
 pub mod Refusals
 pub mod FirstFree
+pub mod Cursor
 pub mod Slots
 pub mod Verdicts
 pub mod RowEdits

@@ -43,6 +43,14 @@ pub fn free_page(table: &[u64], h: Sizes) -> u64
     first_free(table, head::page_owners_at(h), 0, h.p)
 }
 
+// The lowest free row from `next` on.
+pub fn next_row(table: &[u64], h: Sizes, next: u64) -> u64
+    requires { ⌜ InRange h × (next ≤ 65536) ⌝ }
+    ensures { λ r. ⌜ r ≡ firstFree (rowOwner h (now (table .entry))) next (h .r - next) ⌝ }
+{
+    first_free(table, head::row_owners_at(h), next, h.r)
+}
+
 // The lowest free page from `next` on.
 pub fn next_page(table: &[u64], h: Sizes, next: u64) -> u64
     requires { ⌜ InRange h × (next ≤ 65536) ⌝ }

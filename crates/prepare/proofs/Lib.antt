@@ -1,5 +1,3 @@
-pub mod Fills
 pub mod ChunkTurn
-pub mod Cursor
 pub mod Steady
 pub mod PreparePlans

@@ -22,7 +22,7 @@ use Rattle.calls.proofs.FirstFree.{first-free}
 use Rattle.calls.proofs.Reached.{Reached, place-free, turn-owner}
 use Rattle.calls.proofs.PreparedDense.{room-far, room-over, room-pages, room-reached}
 use Rattle.prepare.specs.Ready.{Sound, RowInside, Turnable}
-use Rattle.prepare.proofs.Cursor.{first-from}
+use Rattle.calls.proofs.Cursor.{first-from}
 
 row-inside : (h : Sizes) (t : List ℕ) (c : ℕ) (q : Place) → Owned h t c q → RowInside h q
 row-inside h t c Absent o = tt

@@ -20,14 +20,6 @@ use Rattle.layout.specs.declared.find.Word.the-variants.{Is}
 abbrev pub Sound : List ℕ → List ℕ → List ℕ → ℕ → Type 0
 Sound pages rows t c = (b : List ℕ) → headerAt t .p * blocksOf (headerAt t) ≤ length b → HasRoom (mem pages rows b t) c
 
--- a row r of l members that goes into a page: pools of these lengths have room for their slots
-pub record Fillable (h : Sizes) (pages rows r l : ℕ) : Type 0 where
-  pub sizes : InRange h
-  pub in-pages : h .p * wide h ≤ pages
-  pub in-rows : h .r * h .m ≤ rows
-  pub row : r < h .r
-  pub members : l ≤ h .m
-
 -- a place that is a row: one of the pool's, with as many members as fit
 abbrev pub RowInside : Sizes → Place → Type 0
 RowInside h Absent = Unit

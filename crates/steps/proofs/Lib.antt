@@ -7,5 +7,6 @@ pub mod Slots
 pub mod Rowed
 pub mod Paged
 pub mod Lent
+pub mod Fills
 pub mod Orders
 pub mod Spares

@@ -21,7 +21,7 @@ use Rattle.document.specs.declared.sizes.Sizes.{Sizes}
 use Rattle.layout.specs.declared.place.Place.{Place}
 use Rattle.layout.specs.declared.place.Place.the-variants.{Absent, Sparse, Dense}
 use Rattle.layout.proofs.Places.{decoded-encoded-sparse}
-use Rattle.layout_laws.proofs.Entries.{laid-ordered}
+use Rattle.layout_laws.proofs.Entries.{walked-ordered}
 use Rattle.layout_laws.proofs.Owners.{row-of}
 use Rattle.layout_laws.proofs.Walked.{laid-walked}
 use Rattle.layout.specs.Writes.{putWord, putRow}
@@ -34,19 +34,19 @@ use Rattle.steps.proofs.Words.{put-word}
 use Rattle.steps.proofs.Slots.{entry-free, entry-none, taken, not-taken, used-change}
 use Rattle.steps.proofs.Moves.{Untouched, Moved}
 use Rattle.steps.proofs.Keeps.{Stepped, becomes}
-use Rattle.layout.specs.Tests.{rowsOwned, pagesOwned}
+use Rattle.layout.specs.Tests.{rowsOwned, pagesOwned, Walked}
 
-module _ (h : Sizes) (x : Mem) (L : Laid x h) (c r l : ℕ) (row : List ℕ) (there : r < h .r) (some : 1 ≤ l) (short : l ≤ h .m) (long : length row ≡ h .m) (listed : Listed h row l) (came : RowFor h (x .table) c r) where
+module _ (h : Sizes) (x : Mem) (W : Walked x h) (c r l : ℕ) (row : List ℕ) (there : r < h .r) (some : 1 ≤ l) (short : l ≤ h .m) (long : length row ≡ h .m) (came : RowFor h (x .table) c r) where
   -- the word, and the table with it
   w : ℕ
   w = encoded (Sparse r l)
 
   word-is : decoded w ≡ Sparse r l
   unfolding w
-  word-is = let z = L .sizes in decoded-encoded-sparse r l (omega arith) (omega arith)
+  word-is = let z = W .sizes in decoded-encoded-sparse r l (omega arith) (omega arith)
 
   worded : Worded h (x .table) (putWord h (x .table) c w) c w
-  worded = put-word h (x .table) (laid-ordered L) (L .room .in-table) (L .over-fits) c w (λ none. free none came)
+  worded = put-word h (x .table) (walked-ordered W) (W .room .in-table) (W .over-fits) c w (λ none. free none came)
     where
       free : ((e : ℕ) → e < entries h (x .table) → chunkAt h (x .table) e ≢ c) → RowFor h (x .table) c r → overCount (x .table) < h .v
       free none (new-row a o f) = entry-free h (x .table) c none f
@@ -64,7 +64,7 @@ module _ (h : Sizes) (x : Mem) (L : Laid x h) (c r l : ℕ) (row : List ℕ) (th
   rows-are = refl
 
   inside : rowOwnersAt h + r < length (putWord h (x .table) c w)
-  inside = let n = worded .wrote .len in let m = L .room .in-table in omega arith
+  inside = let n = worded .wrote .len in let m = W .room .in-table in omega arith
 
   owner-here : rowOwner h (y .table) r ≡ c + 1
   owner-here = ap (λ (u : List ℕ). rowOwner h u r) table-is ∙ getD-set-same (putWord h (x .table) c w) (rowOwnersAt h + r) (c + 1) 0 inside
@@ -79,10 +79,10 @@ module _ (h : Sizes) (x : Mem) (L : Laid x h) (c r l : ℕ) (row : List ℕ) (th
   page-same p = owner-off (pageOwnersAt h + p) (omega arith) (omega arith)
 
   room : r * h .m + h .m ≤ length (x .rows)
-  room = slot-in (h .m) (h .r) r (length (x .rows)) there (L .room .in-rows)
+  room = slot-in (h .m) (h .r) r (length (x .rows)) there (W .room .in-rows)
 
   own-owner : (k : ℕ) → placeOf h (x .table) c ≡ Sparse r k → rowOwner h (x .table) r ≡ c + 1
-  own-owner k q = row-of (laid-walked L) c r k q .owner
+  own-owner k q = row-of W c r k q .owner
 
   -- no other chunk has this row
   owner-was : (i : ℕ) → i ≢ c → rowOwner h (x .table) r ≢ i + 1
@@ -99,18 +99,6 @@ module _ (h : Sizes) (x : Mem) (L : Laid x h) (c r l : ℕ) (row : List ℕ) (th
       let n : j ≢ r = λ e. owner-was i d (ap (rowOwner h (x .table)) (sym e) ∙ o .owner) in
       (row-off j n, slot-kept (x .rows) (h .m) r row long room j n)
   others i (Dense p) d o = (page-same p, refl)
-
-  rows-free : (j : ℕ) → j < h .r → rowOwner h (y .table) j ≡ 0 → AllZero (y .rows) (j * h .m) (h .m)
-  unfolding y rowed
-  rows-free j m z = go (same-or j r)
-    where
-      go : (j ≡ r) ⊎ (j ≢ r) → AllZero (putRow h (x .rows) r row) (j * h .m) (h .m)
-      go (inl e) = absurd (let a = ap (rowOwner h (y .table)) e in let b = owner-here in omega arith)
-      go (inr d) = zero-kept (x .rows) (h .m) r row long room j d (L .free-rows j m (sym (row-off j d) ∙ z))
-
-  pages-free : (p : ℕ) → p < h .p → pageOwner h (y .table) p ≡ 0 → AllZero (y .pages) (p * wide h) (wide h)
-  unfolding y rowed
-  pages-free p m z = L .free-pages p m (sym (page-same p) ∙ z)
 
   rows-change : rowsOwned h (y .table) + boolByte (not (eqb (rowOwner h (x .table) r) 0)) ≡ rowsOwned h (x .table) + boolByte (hasRow (decoded w))
   rows-change =
@@ -141,7 +129,7 @@ module _ (h : Sizes) (x : Mem) (L : Laid x h) (c r l : ℕ) (row : List ℕ) (th
       let e = ap (λ (q : Place). boolByte (hasPage q)) word-is in
       omega arith
 
-  row-moved : Moved h x (rowed h x c r l row) c (encoded (Sparse r l))
+  pub row-moved : Moved h x (rowed h x c r l row) c (encoded (Sparse r l))
   unfolding y w rowed
   row-moved =
       record {
@@ -156,15 +144,35 @@ module _ (h : Sizes) (x : Mem) (L : Laid x h) (c r l : ℕ) (row : List ℕ) (th
         pages-used = pages-count;
       }
 
-  pub row-stepped : Stepped h x (rowed h x c r l row) c (encoded (Sparse r l))
-  unfolding y w rowed
-  row-stepped =
-      record {
-        moved = row-moved;
-        listed = subst (RowListed h (y .rows)) (sym word-is) (subst (λ (u : List ℕ). Listed h u l) (sym (slot-put (x .rows) (h .m) r row long room)) listed);
-        free-rows = rows-free;
-        free-pages = pages-free;
-      }
+  -- every other row has the owner that it had
+  pub rowed-owner : (j : ℕ) → j ≢ r → rowOwner h (rowed h x c r l row .table) j ≡ rowOwner h (x .table) j
+  unfolding y
+  rowed-owner = row-off
+
+  -- ---- where rows are listed and free slots hold zeros
+
+  module _ (L : Laid x h) (listed : Listed h row l) where
+    rows-free : (j : ℕ) → j < h .r → rowOwner h (y .table) j ≡ 0 → AllZero (y .rows) (j * h .m) (h .m)
+    unfolding y rowed
+    rows-free j m z = go (same-or j r)
+      where
+        go : (j ≡ r) ⊎ (j ≢ r) → AllZero (putRow h (x .rows) r row) (j * h .m) (h .m)
+        go (inl e) = absurd (let a = ap (rowOwner h (y .table)) e in let b = owner-here in omega arith)
+        go (inr d) = zero-kept (x .rows) (h .m) r row long room j d (L .free-rows j m (sym (row-off j d) ∙ z))
+
+    pages-free : (p : ℕ) → p < h .p → pageOwner h (y .table) p ≡ 0 → AllZero (y .pages) (p * wide h) (wide h)
+    unfolding y rowed
+    pages-free p m z = L .free-pages p m (sym (page-same p) ∙ z)
+
+    pub row-stepped : Stepped h x (rowed h x c r l row) c (encoded (Sparse r l))
+    unfolding y w rowed
+    row-stepped =
+        record {
+          moved = row-moved;
+          listed = subst (RowListed h (y .rows)) (sym word-is) (subst (λ (u : List ℕ). Listed h u l) (sym (slot-put (x .rows) (h .m) r row long room)) listed);
+          free-rows = rows-free;
+          free-pages = pages-free;
+        }
 
   row-offsets : (o : ℕ) → offsets h (rowed h x c r l row) (Sparse r l) o ≡ member (rowOf row) l o
   unfolding rowed
@@ -178,7 +186,8 @@ module _ (h : Sizes) (x : Mem) (L : Laid x h) (c r l : ℕ) (row : List ℕ) (th
 pub rowed-becomes : (x : Mem) (c r l : ℕ) (row : List ℕ) → RowedOk x c r l row → Becomes x (rowed (head x) x c r l row) c (Sparse r l) (member (rowOf row) l)
 rowed-becomes x c r l row k =
     let L = k .set .follows in
+    let W = laid-walked L in
     becomes x (rowed (head x) x c r l row) c (encoded (Sparse r l)) (Sparse r l) (member (rowOf row) l) (k .set)
-    (row-stepped (head x) x L c r l row (k .there) (k .some) (k .short) (k .long) (k .listed) (k .came))
-    (row-word (head x) x L c r l row (k .there) (k .some) (k .short) (k .long) (k .listed) (k .came))
-    (row-offsets (head x) x L c r l row (k .there) (k .some) (k .short) (k .long) (k .listed) (k .came))
+    (row-stepped (head x) x W c r l row (k .there) (k .some) (k .short) (k .long) (k .came) L (k .listed))
+    (row-word (head x) x W c r l row (k .there) (k .some) (k .short) (k .long) (k .came))
+    (row-offsets (head x) x W c r l row (k .there) (k .some) (k .short) (k .long) (k .came))

@@ -19,10 +19,11 @@ use Rattle.layout.specs.Places.{hasRow, hasPage}
 use Rattle.layout.specs.Entries.{placeAt, placeOf}
 use Rattle.layout.specs.Meaning.{kindOf, kinds, stateOf}
 use Rattle.layout.specs.Follows.{Follows}
+use Rattle.layout.specs.Tests.{Walked}
 use Rattle.layout.specs.declared.place.Place.{Place}
 use Rattle.layout.specs.declared.place.Place.the-variants.{Absent, Sparse, Dense}
 use Rattle.layout_laws.proofs.Walked.{laid-walked}
-use Rattle.layout_laws.proofs.Entries.{laid-ordered, count-chunks}
+use Rattle.layout_laws.proofs.Entries.{walked-ordered, count-chunks}
 use Rattle.layout_laws.proofs.ChunkCounts.{over-chunks, sparse-rows, dense-pages}
 use Rattle.unions.specs.Union.{standing, source, chunkOf, sourceEntries, isPlaced, isDense, newEntry, newRow, freedRow, newPage, overAfter, rowsAfter, pagesAfter}
 use Rattle.unions.proofs.Standing.{standing-is, source-is}
@@ -38,7 +39,7 @@ module _ (P Q R S : Ids) (n : ℕ) where
       ∙ sum-ext (λ (j : ℕ). boolByte (P j) + boolByte (Q j)) (λ (j : ℕ). boolByte (R j) + boolByte (S j)) n h
       ∙ sum-add (λ (j : ℕ). boolByte (R j)) (λ (j : ℕ). boolByte (S j)) n
 
-count-more : (P Q R : Ids) (n : ℕ) → ((j : ℕ) → j < n → boolByte (P j) + boolByte (Q j) ≡ boolByte (R j)) → count P n + count Q n ≡ count R n
+pub count-more : (P Q R : Ids) (n : ℕ) → ((j : ℕ) → j < n → boolByte (P j) + boolByte (Q j) ≡ boolByte (R j)) → count P n + count Q n ≡ count R n
 count-more P Q R n h =
     let a = count-balance P Q R (λ (_ : ℕ). false) n (λ j l. let e = h j l in omega arith) in
     let b = count-none (λ (_ : ℕ). false) n (λ j l. refl) in
@@ -94,6 +95,18 @@ module _ (x y : Mem) where
 
 -- ---- all chunks
 
+-- a yes or no of the source's entries, of places here and there, is one of chunk ids
+module _ {x y : Mem} (w : Walked x (head x)) (v : Walked y (head y)) (same : sameShape (head x) (head y) ≡ true) where
+  pub by-chunks : (f : ℕ → Bool) (g : ℕ → Place → Place → Bool) → ((c : ℕ) (o : Place) → g c o Absent ≡ false)
+      → ((e : ℕ) → f e ≡ g (chunkOf y e) (standing x (chunkOf y e)) (source y e))
+      → count f (sourceEntries y) ≡ count (λ (c : ℕ). g c (placeOf (head x) (x .table) c) (placeOf (head y) (y .table) c)) (lastChunk (head x))
+  by-chunks f g none each =
+      let here = placeOf (head x) (x .table) in
+      count-ext f (λ (e : ℕ). g (chunkOf y e) (here (chunkOf y e)) (placeAt (head y) (y .table) e)) (sourceEntries y)
+      (λ e l. each e ∙ ap₂ (g (chunkOf y e)) (standing-is w (chunkOf y e)) (source-is v e l))
+      ∙ sym (count-chunks (head y) (y .table) (walked-ordered v) (λ (c : ℕ) (q : Place). g c (here c) q) (λ c. none c (here c)))
+      ∙ ap (count (λ (c : ℕ). g c (here c) (placeOf (head y) (y .table) c))) (sym (same-last x y same))
+
 module _ {x y : Mem} (w : Follows x) (v : Follows y) (same : sameShape (head x) (head y) ≡ true) where
   abbrev here : ℕ → Place
   here c = placeOf (head x) (x .table) c
@@ -104,16 +117,6 @@ module _ {x y : Mem} (w : Follows x) (v : Follows y) (same : sameShape (head x) 
   abbrev after : ℕ → Kind
   after = unionMap (stateOf x) (stateOf y)
 
-  -- a yes or no of the source's entries, of places here and there, is one of chunk ids
-  by-chunks : (f : ℕ → Bool) (g : ℕ → Place → Place → Bool) → ((c : ℕ) (o : Place) → g c o Absent ≡ false)
-      → ((e : ℕ) → f e ≡ g (chunkOf y e) (standing x (chunkOf y e)) (source y e))
-      → count f (sourceEntries y) ≡ count (λ (c : ℕ). g c (here c) (there c)) (lastChunk (head x))
-  by-chunks f g none each =
-      count-ext f (λ (e : ℕ). g (chunkOf y e) (here (chunkOf y e)) (placeAt (head y) (y .table) e)) (sourceEntries y)
-      (λ e l. each e ∙ ap₂ (g (chunkOf y e)) (standing-is (laid-walked w) (chunkOf y e)) (source-is (laid-walked v) e l))
-      ∙ sym (count-chunks (head y) (y .table) (laid-ordered v) (λ (c : ℕ) (q : Place). g c (here c) q) (λ c. none c (here c)))
-      ∙ ap (count (λ (c : ℕ). g c (here c) (there c))) (sym (same-last x y same))
-
   abbrev enters : ℕ → Place → Place → Bool
   enters c o q = isPlaced q && (leb (head x .d) c && not (isPlaced o))
 
@@ -121,7 +124,7 @@ module _ {x y : Mem} (w : Follows x) (v : Follows y) (same : sameShape (head x) 
   unfolding overflows newEntry kinds
   over-after =
       let a = over-chunks (laid-walked w) in
-      let b = by-chunks (newEntry x y) enters (λ c o. refl) (λ e. refl) in
+      let b = by-chunks (laid-walked w) (laid-walked v) same (newEntry x y) enters (λ c o. refl) (λ e. refl) in
       let d = count-more (λ (c : ℕ). leb (head x .d) c && isPresent (kinds x c)) (λ (c : ℕ). enters c (here c) (there c))
       (λ (c : ℕ). leb (head x .d) c && isPresent (after c)) (lastChunk (head x))
       (λ c l. over-one x y (leb (head x .d) c) (here c) (there c) ∙ ap (λ (k : Kind). boolByte (leb (head x .d) c && isPresent k)) (sym (result-is w v same c))) in
@@ -137,8 +140,8 @@ module _ {x y : Mem} (w : Follows x) (v : Follows y) (same : sameShape (head x) 
   unfolding sparses newRow freedRow kinds
   rows-after =
       let a = sparse-rows (laid-walked w) in
-      let b = by-chunks (newRow x y) fills (λ c o. refl) (λ e. refl) in
-      let d = by-chunks (freedRow x y) frees (λ c o. refl) (λ e. refl) in
+      let b = by-chunks (laid-walked w) (laid-walked v) same (newRow x y) fills (λ c o. refl) (λ e. refl) in
+      let d = by-chunks (laid-walked w) (laid-walked v) same (freedRow x y) frees (λ c o. refl) (λ e. refl) in
       let f = count-balance (λ (c : ℕ). isSparse (kinds x c)) (λ (c : ℕ). fills c (here c) (there c)) (λ (c : ℕ). isSparse (after c))
       (λ (c : ℕ). frees c (here c) (there c)) (lastChunk (head x))
       (λ c l.
@@ -153,7 +156,7 @@ module _ {x y : Mem} (w : Follows x) (v : Follows y) (same : sameShape (head x) 
   unfolding denses newPage kinds
   pages-after =
       let a = dense-pages (laid-walked w) in
-      let b = by-chunks (newPage x y) pages (λ c o. refl) (λ e. refl) in
+      let b = by-chunks (laid-walked w) (laid-walked v) same (newPage x y) pages (λ c o. refl) (λ e. refl) in
       let d = count-more (λ (c : ℕ). state.isDense (kinds x c)) (λ (c : ℕ). pages c (here c) (there c)) (λ (c : ℕ). state.isDense (after c)) (lastChunk (head x))
       (λ c l. page-one x y (here c) (there c) ∙ ap (λ (k : Kind). boolByte (state.isDense k)) (sym (result-is w v same c))) in
       omega arith

@@ -17,3 +17,5 @@ pub mod Accepted
 pub mod Entered
 pub mod Spares
 pub mod Said
+pub mod Joins
+pub mod Onward

@@ -1,2 +1,3 @@
 pub mod Union
 pub mod Takes
+pub mod Joins

@@ -9,7 +9,8 @@ use Rattle.layout.specs.Entries.{placeOf}
 use Rattle.layout.specs.declared.place.Place.{Place}
 use Rattle.layout.specs.declared.place.Place.the-variants.{Absent, Sparse, Dense}
 use Rattle.calls.specs.Prepare.{intoPage}
-use Rattle.prepare.proofs.ChunkTurn.{absent-page, never-bad, place-is, page-there, inside-same}
+use Rattle.steps.proofs.Fills.{blank-paged}
+use Rattle.prepare.proofs.ChunkTurn.{never-bad, place-is, page-there, inside-same}
 use borrow.Author.Needs.{needs}
 use Rattle.prepare.proofs.write.make_dense.Statement.{statement}
 use Rattle.prepare.proofs.write.make_dense.Tie as tie
@@ -92,7 +93,7 @@ returns-2 c =
     let d = c .before .before .before .before .before .before in
     let g = start d .args in
     λ bs. wrote d Absent (c .before .before .before .before .enum-told2 .given .1) bs
-    (absent-page (g .h) (g .c) (g .p) (g .pages .now) (g .rows .now) bs (g .table .now) _ (c .before .before .enter-page .ensures))
+    (blank-paged (g .h) (g .c) (g .p) (g .pages .now) (g .rows .now) bs (g .table .now) _ (c .before .before .enter-page .ensures))
 
 same-length-3 : tie.Need-same-length-3
 same-length-3 c = search needs

@@ -8,10 +8,10 @@ use Rattle.document.specs.Sizes.{top}
 use Rattle.layout.specs.Sizes.{wide}
 use Rattle.layout.proofs.Parts.{slot-in}
 use Rattle.layout.proofs.Lent.{length-lent}
-use Rattle.prepare.proofs.Fills.{fill-put}
+use Rattle.steps.proofs.Fills.{fill-put}
 use borrow.Author.Needs.{needs}
-use Rattle.prepare.proofs.write.fill_page.Statement.{statement}
-use Rattle.prepare.proofs.write.fill_page.Tie as tie
+use Rattle.steps.proofs.turn.fill_page.Statement.{statement}
+use Rattle.steps.proofs.turn.fill_page.Tie as tie
 
 abbrev start : tie.After-row-at → tie.Start
 start r = r .before .before .before

@@ -4,8 +4,8 @@ use mathlib.Core.List.{List}
 use Prim.Native.Nat.{ℕ, _+_}
 use Rattle.layout.specs.Writes.{putWord, putPageOwner}
 use borrow.Author.Needs.{needs}
-use Rattle.prepare.proofs.write.enter_page.Statement.{statement}
-use Rattle.prepare.proofs.write.enter_page.Tie as tie
+use Rattle.steps.proofs.turn.enter_page.Statement.{statement}
+use Rattle.steps.proofs.turn.enter_page.Tie as tie
 
 page-word-requires : tie.Need-page-word-requires
 page-word-requires c κs = search needs

@@ -1,8 +1,8 @@
 -- The page, then the row, then the table. Assumes nothing.
-use Rattle.prepare.proofs.ChunkTurn.{sparse-page}
+use Rattle.steps.proofs.Fills.{row-paged}
 use borrow.Author.Needs.{needs}
-use Rattle.prepare.proofs.write.turn_row.Statement.{statement}
-use Rattle.prepare.proofs.write.turn_row.Tie as tie
+use Rattle.steps.proofs.turn.turn_row.Statement.{statement}
+use Rattle.steps.proofs.turn.turn_row.Tie as tie
 
 fill-page-requires : tie.Need-fill-page-requires
 fill-page-requires c κs = search needs
@@ -26,7 +26,7 @@ returns : tie.Need-returns
 returns c =
     let f = c .before .before .before .before .before .before .before .before .before .before in
     let a = f .before .before .before .before .before .before .args in
-    λ bs. sparse-page (a .h) (a .c) (a .p) (a .pages .now) (a .rows .now) bs (a .table .now) (a .r) (a .l) _ _ _
+    λ bs. row-paged (a .h) (a .c) (a .p) (a .pages .now) (a .rows .now) bs (a .table .now) (a .r) (a .l) _ _ _
     (f .fill-page .ensures) (c .before .before .before .before .before .before .free-row .ensures) (c .before .before .turn-entry .ensures)
 
 pub turn-row-spec : {M : Type 1} → statement M

@@ -1,0 +1,6 @@
+pub mod Lent
+pub mod Heads
+pub mod Rows
+pub mod Pages
+pub mod Turns
+pub mod Ways
