@@ -20,7 +20,7 @@ use Rattle.unions.specs.Union.{fits, standing, source, densely, sparsely}
 use Rattle.unions.specs.Joins.{Joins}
 use Rattle.unions.proofs.Standing.{chunk-in}
 use Rattle.unions.proofs.Results.{same-s, same-m}
-use Rattle.unions.proofs.Steady.{Turned}
+use Rattle.unions.proofs.Onward.{Turned}
 use Rattle.merging.specs.Ready.{PagePools, RowPools, Turn, Entry}
 use Rattle.merging.specs.Effects.{Densely, Sparsely, DenseTurn, SparseTurn}
 

@@ -14,7 +14,7 @@ use Rattle.layout.specs.Entries.{entries}
 use Rattle.layout.specs.Free.{firstFree}
 use Rattle.calls.proofs.FirstFree.{first-free}
 use Rattle.unions.specs.Union.{sourceEntries, denseTo, sparseTo, unitedBy}
-use Rattle.unions.proofs.Steady.{Turned, Kept, dense-turned, sparse-turned, dense-kept, sparse-kept}
+use Rattle.unions.proofs.Onward.{Turned, Kept, dense-turned, sparse-turned, dense-kept, sparse-kept}
 use Rattle.merging.specs.Ready.{PagePools, RowPools, Entry, Sound, RowsSound}
 use Rattle.merging.specs.Effects.{denselyAt, sparselyAt, DenseTurn, SparseTurn}
 use Rattle.merging.proofs.Turns.{page-pools, row-pools, entries-few, entry-ready, slot-next}

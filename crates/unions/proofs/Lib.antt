@@ -3,4 +3,4 @@ pub mod Results
 pub mod Counts
 pub mod Judged
 pub mod Joins
-pub mod Steady
+pub mod Onward
