@@ -1,26 +1,26 @@
 -- Entry by entry: what a turn asks for is there where the tests passed, and the lowest free slot is looked for from the last one on. Assumes nothing.
-use mathlib.Core.Path.{_≡_, sym, ap, subst, _∙_}
+use mathlib.Core.Path.{_≡_, refl, sym, ap, subst, _∙_}
 use mathlib.Core.Logic.{_≢_}
 use mathlib.Core.List.{List}
 use mathlib.Core.Bool.{true}
-use Prim.Native.Nat.{ℕ, _-_, _*_, _^_, _≤_, _<_}
+use Prim.Native.Nat.{ℕ, _+_, _-_, _*_, _^_, _≤_, _<_}
 use native.Mathlib.Omega.{arith}
 use lib.ListN.{length}
 use lib.Pow.{pow-mono}
 use Rattle.document.specs.Sizes.{InRange, lastChunk}
 use Rattle.document.specs.declared.sizes.Sizes.{Sizes}
 use Rattle.layout.specs.Mem.{Mem, mem}
-use Rattle.layout.specs.Sizes.{wide, headerAt, head}
+use Rattle.layout.specs.Sizes.{wide, headerAt, head, overCount}
 use Rattle.layout.specs.Entries.{entries, chunkAt}
 use Rattle.layout.specs.Free.{firstFree}
 use Rattle.layout.specs.declared.place.Place.{Place}
 use Rattle.calls.proofs.FirstFree.{first-free}
 use Rattle.calls.proofs.Cursor.{first-from}
-use Rattle.unions.specs.Union.{fits, standing, source, densely, sparsely}
+use Rattle.unions.specs.Union.{fits, standing, source, chunkOf, sourceEntries, densely, sparsely}
 use Rattle.unions.specs.Joins.{Joins}
 use Rattle.unions.proofs.Standing.{chunk-in}
 use Rattle.unions.proofs.Results.{same-s, same-m}
-use Rattle.unions.proofs.Onward.{Turned}
+use Rattle.unions.proofs.Passes.{Turned}
 use Rattle.merging.specs.Ready.{PagePools, RowPools, Turn, Entry}
 use Rattle.merging.specs.Effects.{Densely, Sparsely, DenseTurn, SparseTurn}
 

@@ -1,20 +1,21 @@
 -- Each pass under way: memory is the model's after as many entries, and the cursor is the lowest free slot. Assumes nothing.
 use mathlib.Core.Path.{_≡_, refl, sym, ap, subst, _∙_}
 use mathlib.Core.List.{List}
-use Prim.Native.Nat.{ℕ, _+_, _-_, _≤_, _<_}
+use Prim.Native.Nat.{ℕ, _+_, _-_, _*_, _^_, _≤_, _<_}
 use native.Mathlib.Numerals.{add-one}
 use native.Mathlib.Omega.{arith}
 use lib.ListN.{length}
 use Rattle.document.specs.Sizes.{InRange}
 use Rattle.document.specs.declared.sizes.Sizes.{Sizes}
 use Rattle.layout.specs.Mem.{Mem, mem}
-use Rattle.layout.specs.Sizes.{headerAt}
+use Rattle.layout.specs.Sizes.{headerAt, head}
 use Rattle.layout.specs.Places.{rowOwner, pageOwner}
 use Rattle.layout.specs.Entries.{entries}
 use Rattle.layout.specs.Free.{firstFree}
 use Rattle.calls.proofs.FirstFree.{first-free}
 use Rattle.unions.specs.Union.{sourceEntries, denseTo, sparseTo, unitedBy}
-use Rattle.unions.proofs.Onward.{Turned, Kept, dense-turned, sparse-turned, dense-kept, sparse-kept}
+use Rattle.unions.specs.Joins.{Joins}
+use Rattle.unions.proofs.Passes.{Turned, Kept, dense-turned, sparse-turned, dense-kept, sparse-kept}
 use Rattle.merging.specs.Ready.{PagePools, RowPools, Entry, Sound, RowsSound}
 use Rattle.merging.specs.Effects.{denselyAt, sparselyAt, DenseTurn, SparseTurn}
 use Rattle.merging.proofs.Turns.{page-pools, row-pools, entries-few, entry-ready, slot-next}

@@ -3,4 +3,4 @@ pub mod Results
 pub mod Counts
 pub mod Judged
 pub mod Joins
-pub mod Onward
+pub mod Passes

@@ -3,7 +3,7 @@ use mathlib.Core.Path.{_≡_, refl, sym, ap, subst, _∙_}
 use mathlib.Core.Logic.{_⊎_, inl, inr, _≢_}
 use mathlib.Core.List.{List}
 use mathlib.Core.Bool.{Bool, true, false, cond, _&&_}
-use Prim.Native.Nat.{ℕ, zero, suc, _+_, _-_, _*_, _^_, _≤_, _<_}
+use Prim.Native.Nat.{ℕ, zero, suc, _+_, _-_, _*_, _^_, max, _≤_, _<_}
 use native.Mathlib.Omega.{arith}
 use lib.ListN.{length, take, length-take}
 use lib.Dec.{leb, ltb}
@@ -15,7 +15,7 @@ use Rattle.sparse.proofs.Edits.{length-copied}
 use Rattle.sparse.proofs.Unions.{length-union-ge, length-front}
 use Rattle.dense.specs.Bits.{withRow}
 use Rattle.dense.proofs.Bits.{length-row, length-or}
-use Rattle.document.specs.Sizes.{top, lastChunk}
+use Rattle.document.specs.Sizes.{InRange, top, lastChunk}
 use Rattle.document.specs.State.{isPresent}
 use Rattle.document.specs.declared.sizes.Sizes.{Sizes}
 use Rattle.layout.specs.Mem.{Mem}
@@ -24,13 +24,14 @@ use Rattle.layout.specs.Places.{encoded, hasPage, rowPart, pagePart, rowOwner, 
 use Rattle.layout.specs.Entries.{placeOf}
 use Rattle.layout.specs.Meaning.{kindOf, kinds}
 use Rattle.layout.specs.Follows.{OwnsRow, OwnsPage, Owned}
+use Rattle.layout.specs.Tests.{Walked}
 use Rattle.layout.specs.declared.place.Place.{Place}
 use Rattle.layout.specs.declared.place.Place.the-variants.{Absent, Sparse, Dense}
 use Rattle.layout.proofs.Added.{same-or}
 use Rattle.layout.proofs.Parts.{slot-in, length-put}
 use Rattle.layout.proofs.Places.{decoded-encoded-sparse, decoded-encoded-dense}
 use Rattle.layout_laws.proofs.Sizes.{row-length, page-length}
-use Rattle.layout_laws.proofs.Owners.{row-of}
+use Rattle.layout_laws.proofs.Owners.{row-of, page-of}
 use Rattle.steps.specs.Steps.{rowed, paged}
 use Rattle.steps.specs.Effects.{RowFor, PageFor}
 use Rattle.steps.proofs.Moves.{Moved}
