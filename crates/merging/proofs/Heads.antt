@@ -1,8 +1,8 @@
 -- A chunk's word and an owner leave the sizes in the header, on any table. Assumes nothing.
-use mathlib.Core.Path.{_≡_, refl, ap, _∙_}
+use mathlib.Core.Path.{_≡_, refl, _∙_}
 use mathlib.Core.List.{List}
 use mathlib.Core.Bool.{Bool, true, false, cond, _&&_}
-use Prim.Native.Nat.{ℕ, zero, suc, _+_, _-_, _*_, _/_, _≤_, _<_}
+use Prim.Native.Nat.{ℕ, zero, suc, _+_, _-_, _/_, _≤_, _<_}
 use native.Mathlib.Omega.{arith}
 use lib.ListN.{length, getD, set}
 use lib.Seq.{getD-set-other}
@@ -13,7 +13,7 @@ use Rattle.layout.specs.Mem.{Mem}
 use Rattle.layout.specs.Sizes.{directAt, overStart, overAt, rowOwnersAt, pageOwnersAt, headerAt, head, overCount}
 use Rattle.layout.specs.Places.{encoded}
 use Rattle.layout.specs.Short.{lowerKey, keyAt, overPlace}
-use Rattle.layout.specs.Writes.{added, addedIf, overPut, putWord, putRowOwner}
+use Rattle.layout.specs.Writes.{added, overPut, putWord, putRowOwner}
 use Rattle.layout.specs.declared.place.Place.{Place}
 use Rattle.layout.specs.declared.place.Place.the-variants.{Absent, Sparse, Dense}
 use Rattle.layout.proofs.Added.{added-low}

@@ -12,7 +12,7 @@ use Rattle.sparse.specs.Edit.{copied}
 use Rattle.sparse.specs.Union.{union, onFront}
 use Rattle.document.specs.declared.sizes.Sizes.{Sizes}
 use Rattle.layout.specs.Places.{rowPart}
-use Rattle.layout.specs.Writes.{putPart, putRow}
+use Rattle.layout.specs.Writes.{putRow}
 use Rattle.layout_laws.proofs.Sizes.{part-length}
 use Rattle.layout.proofs.Lent.{span}
 use Rattle.steps.proofs.Lent.{put-lent}

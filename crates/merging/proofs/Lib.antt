@@ -4,3 +4,4 @@ pub mod Rows
 pub mod Pages
 pub mod Turns
 pub mod Ways
+pub mod Unites

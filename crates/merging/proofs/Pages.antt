@@ -1,7 +1,7 @@
 -- A turn of the first pass, by what is written to pages, rows and table. Assumes nothing.
 use mathlib.Core.Path.{_≡_, refl, sym, ap, ap₂, subst, _∙_}
 use mathlib.Core.List.{List}
-use mathlib.Core.Bool.{Bool, true, false, cond, _&&_}
+use mathlib.Core.Bool.{Bool, true, false, _&&_}
 use Prim.Native.Nat.{ℕ, _*_, _^_, _≤_, _<_}
 use native.Mathlib.Omega.{arith}
 use lib.ListN.{take, drop}
@@ -21,7 +21,7 @@ use Rattle.calls.specs.Prepare.{intoPage}
 use Rattle.merge_plan.specs.Sides.{WithRows}
 use Rattle.steps.specs.Ready.{Fillable}
 use Rattle.steps.proofs.Fills.{put-back}
-use Rattle.unions.specs.Union.{fits, isDense, pageOf, withSource, joinedPage, densely}
+use Rattle.unions.specs.Union.{fits, isDense, pageOf, withSource, joinedPage}
 use Rattle.merging.specs.Ready.{PagePools, RowPools}
 use Rattle.merging.specs.Effects.{pageOr, Densely}
 use Rattle.merging.proofs.Heads.{head-into}

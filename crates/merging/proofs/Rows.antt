@@ -1,5 +1,5 @@
 -- A turn of the second pass, by what is written to rows and table. Assumes nothing.
-use mathlib.Core.Path.{_≡_, refl, sym, ap, ap₂, _∙_}
+use mathlib.Core.Path.{_≡_, sym, ap, ap₂, _∙_}
 use mathlib.Core.List.{List}
 use mathlib.Core.Bool.{Bool, true, false, cond}
 use Prim.Native.Nat.{ℕ, _+_, _≤_, _<_}
@@ -17,7 +17,7 @@ use Rattle.layout.specs.Places.{encoded, rowPart, rowOwner}
 use Rattle.layout.specs.Free.{firstFree}
 use Rattle.layout.specs.Writes.{putWord, putRowOwner, putRow}
 use Rattle.layout.specs.declared.place.Place.{Place}
-use Rattle.layout.specs.declared.place.Place.the-variants.{Absent, Sparse, Dense}
+use Rattle.layout.specs.declared.place.Place.the-variants.{Absent, Sparse}
 use Rattle.steps.specs.Steps.{rowed}
 use Rattle.unions.specs.Union.{fits, sparsely}
 use Rattle.merging.specs.Effects.{Sparsely}

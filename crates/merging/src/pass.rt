@@ -123,7 +123,8 @@ pub fn unite(
 )
     requires { ⌜ Sound (now pages) (now rows) (now table) (now spages) (now srows) (now stable) ⌝ }
     ensures { λ _. ⌜ ((b sb : List ℕ) → mem (now (pages .exit)) (now (rows .exit)) b (now (table .exit))
-        ≡ unitedBy (mem (now (pages .entry)) (now (rows .entry)) b (now (table .entry))) (mem (now (spages .entry)) (now (srows .entry)) sb (now (stable .entry)))) ⌝ }
+        ≡ (let y = mem (now (spages .entry)) (now (srows .entry)) sb (now (stable .entry)) in
+        unitedBy (mem (now (pages .entry)) (now (rows .entry)) b (now (table .entry))) y)) ⌝ }
 {
     let h = head::read(table);
     let g = head::read(stable);

@@ -1,6 +1,6 @@
 -- By where the chunk stands there. Assumes nothing.
 use mathlib.Core.Path.{refl, subst}
-use Rattle.layout.specs.declared.place.Place.the-variants.{Absent, Sparse, Dense}
+use Rattle.layout.specs.declared.place.Place.the-variants.{Absent, Dense}
 use Rattle.merging.specs.Ready.{Turn}
 use Rattle.merging.proofs.Rows.{sparsely-there}
 use borrow.Author.Needs.{needs}
