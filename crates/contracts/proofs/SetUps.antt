@@ -17,7 +17,7 @@ use Rattle.contracts.proofs.Steps.{same-state}
 parts : {a b : Outcome} {x y : Mem} → did a x ≡ did b y → (a ≡ b) × (x ≡ y)
 parts e = (ap (λ (d : Did). d .answer) e, ap (λ (d : Did). d .after) e)
 
-pub fresh-empty : (h : Sizes) (x : Mem) → InRange h → RoomIn h x → stateOf (fresh h x) ≡ empty h
+fresh-empty : (h : Sizes) (x : Mem) → InRange h → RoomIn h x → stateOf (fresh h x) ≡ empty h
 fresh-empty h x z r = same-state (head-fresh h x) (fresh-open h x z r) (fun-ext (fresh-holds h x z r)) (fun-ext (fresh-kinds h x z r))
 
 pub sets-up : (h : Sizes) (x : Mem) {a : Outcome} {y : Mem} → did a y ≡ setUpBy h x → SetsUp h x a y

@@ -3,3 +3,4 @@ pub mod Grown
 pub mod Answered
 pub mod Iteration
 pub mod Listings
+pub mod Unions

@@ -1,5 +1,5 @@
 -- No answer that document 01 gives to a call on a set is a 3. Assumes nothing.
-use mathlib.Core.Path.{_≡_}
+use mathlib.Core.Path.{_≡_, refl, sym, subst}
 use mathlib.Core.Bool.{Bool, true, false, cond}
 use Prim.Native.Nat.{ℕ, _+_, _-_, _/_}
 use native.Mathlib.Omega.{arith}
@@ -10,10 +10,11 @@ use Rattle.sums.specs.Cuts.{parts}
 use Rattle.sums.specs.Members.{nth}
 use Rattle.document.specs.Sizes.{top}
 use Rattle.document.specs.State.{Kind, absent, sparse, dense, State}
-use Rattle.document.specs.Refusals.{is-ranked, is-open, no-room}
+use Rattle.document.specs.Refusals.{is-ranked, is-open, sizes-differ, no-room}
 use Rattle.document.specs.Room.{overflows, sparses, denses, verdict}
 use Rattle.document.specs.Insert.{grownMap, newAnswer, ifDense, preparedAnswer, done}
 use Rattle.document.specs.Prepare.{denseMap, prepareAnswer}
+use Rattle.document.specs.Union.{Join, barred, sameShape, unionMap, unionAnswer}
 use Rattle.document.specs.Iteration.{leftFrom, firstOf, listing}
 use Rattle.document.specs.Calls.{Call, insert, put, prepared, prepare, rank-up, leave, Said, whether, that, many, maybe, listed, Refuses}
 use Rattle.document.specs.Calls.{Ask, get, any-in-range, chunk-of, len, is-empty, has-any, chunk-count, iterate, rank-of, rank-if, total-count, check}
@@ -89,6 +90,17 @@ answer-not-three q (prepared z) = prepared-not q z
 answer-not-three q (prepare z) = prepare-not q z
 answer-not-three q rank-up = either that (q .mode) (outcome.Refused is-ranked) outcome.Done (λ e. omega arith) (λ e. e)
 answer-not-three q leave = either that (q .mode) outcome.Done (outcome.Refused is-open) (λ e. e) (λ e. omega arith)
+
+union-not : (q p : State) (j : Join) → Not3 (that (unionAnswer q p j))
+unfolding unionAnswer
+union-not q p j =
+    let room = verdict (q .sizes) (unionMap q p) (truth.Is true) in
+    either that (barred q p j) (outcome.Refused is-ranked) (cond (sameShape (q .sizes) (p .sizes)) (done room) (outcome.Refused sizes-differ)) (λ e. omega arith)
+    (either that (sameShape (q .sizes) (p .sizes)) (done room) (outcome.Refused sizes-differ)
+    (done-not room (verdict-not (q .sizes) (unionMap q p) (truth.Is true) (λ e. e))) (λ e. omega arith))
+
+pub union-not-three : (q p : State) (j : Join) → unionAnswer q p j ≡ outcome.Refused 3 → ⊥
+union-not-three q p j e = union-not q p j (subst (λ (a : Outcome). Refuses (that a) 3) (sym e) refl)
 
 chunk-not : (h : Sizes) (z : ℤ) → Not3 (maybe (chunkIn h z))
 chunk-not h (pos n) = λ e. e

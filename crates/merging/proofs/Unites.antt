@@ -11,12 +11,14 @@ use Rattle.layout.specs.Mem.{Mem}
 use Rattle.layout.specs.Sizes.{Roomy, head}
 use Rattle.unions.specs.Union.{met, leftBy, metIf, unitedBy, unionPlan, unionBy}
 use Rattle.unions.proofs.Joins.{plan-joins}
+use Rattle.contracts.specs.Does.{Joins}
+use Rattle.contracts.proofs.Joins.{joins}
 use Rattle.merging.specs.Ready.{Sound}
 
 module _ (x y : Mem) (j : Join) (a : Outcome) (told : a ≡ unionPlan x y j) where
-  pub plan-refused : (n : ℕ) → a ≡ Refused n → met (Refused n) x y ≡ unionBy x y j
+  pub plan-refused : (n : ℕ) → a ≡ Refused n → Joins x y j (Refused n) x y
   unfolding unionBy
-  plan-refused n e = ap (metIf x y j) (sym e ∙ told)
+  plan-refused n e = joins x y j (ap (metIf x y j) (sym e ∙ told))
 
   module _ (done : a ≡ Done) where
     pub plan-sound : Sound (x .pages) (x .rows) (x .table) (y .pages) (y .rows) (y .table)
@@ -28,6 +30,6 @@ module _ (x y : Mem) (j : Join) (a : Outcome) (told : a ≡ unionPlan x y j) whe
         let w = plan-joins x y j (sym told ∙ done) .there in
         (subst InRange (sym e) (w .sizes), subst (λ (k : Sizes). Roomy k (length (y .pages)) (length (y .rows)) (length (y .blocks)) (length (y .table))) (sym e) (w .room))
 
-    pub plan-done : (z v : Mem) → z ≡ unitedBy x y → v ≡ leftBy y j → met Done z v ≡ unionBy x y j
+    pub plan-done : (z v : Mem) → z ≡ unitedBy x y → v ≡ leftBy y j → Joins x y j Done z v
     unfolding unionBy
-    plan-done z v ez ev = ap₂ (met Done) ez ev ∙ ap (metIf x y j) (sym done ∙ told)
+    plan-done z v ez ev = joins x y j (ap₂ (met Done) ez ev ∙ ap (metIf x y j) (sym done ∙ told))

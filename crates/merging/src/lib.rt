@@ -4,10 +4,9 @@ mod page;
 mod pass;
 mod row;
 
-ghost use mathlib.Core.Path.{_≡_};
 ghost use Rattle.document.specs.Union.{merge-from, merge};
 ghost use Rattle.layout.specs.Mem.{memOf};
-ghost use Rattle.unions.specs.Union.{met, unionBy};
+ghost use Rattle.contracts.specs.Does.{Joins};
 use document::answer::Outcome;
 use layout::head;
 use layout_writes::setup;
@@ -27,7 +26,8 @@ pub fn merge_from(
     ensures { λ r. ⌜ (
         let x = memOf (pages .entry) (rows .entry) (blocks .entry) (table .entry) in
         let y = memOf (spages .entry) (srows .entry) (sblocks .entry) (stable .entry) in
-        met r (memOf (pages .exit) (rows .exit) (blocks .exit) (table .exit)) y ≡ unionBy x y merge-from) ⌝ }
+        let u = memOf (pages .exit) (rows .exit) (blocks .exit) (table .exit) in
+        Joins x y merge-from r u y) ⌝ }
 {
     match plan::union_plan(
         pages,
@@ -62,8 +62,9 @@ pub fn merge(
     ensures { λ r. ⌜ (
         let x = memOf (pages .entry) (rows .entry) (blocks .entry) (table .entry) in
         let y = memOf (spages .entry) (srows .entry) (sblocks .entry) (stable .entry) in
-        met r (memOf (pages .exit) (rows .exit) (blocks .exit) (table .exit)) (memOf (spages .exit) (srows .exit) (sblocks .exit) (stable .exit))
-        ≡ unionBy x y merge) ⌝ }
+        let u = memOf (pages .exit) (rows .exit) (blocks .exit) (table .exit) in
+        let v = memOf (spages .exit) (srows .exit) (sblocks .exit) (stable .exit) in
+        Joins x y merge r u v) ⌝ }
 {
     match plan::union_plan(
         pages,

@@ -17,7 +17,8 @@ use Rattle.document.specs.Spans.{idsAnswer, ranksAnswer, inPartition, rangeMeet
 use Rattle.document.specs.declared.answer.Truth.the-variants.{Is}
 use Rattle.numbers.specs.Budget.{slotsForBudget, fileBoundedMaxId}
 use Rattle.layout.specs.SetUp.{sizesOf}
-use Rattle.contracts.specs.Does.{Does, Answers, SetsUp}
+use Rattle.document.specs.Union as union
+use Rattle.contracts.specs.Does.{Does, Answers, SetsUp, Joins}
 use Rattle.cuts.specs.Promise.{Plans}
 use Rattle.promises.proofs.Ensures.{four, two, Ensures}
 use Rattle.idset.proofs.setup.set_up as set_up
@@ -25,6 +26,8 @@ use Rattle.inserts.proofs.insert.set_if_new as set_if_new
 use Rattle.inserts.proofs.insert.set as set
 use Rattle.inserts.proofs.insert.set_prepared as set_prepared
 use Rattle.prepare.proofs.pre_allocate as pre_allocate
+use Rattle.merging.proofs.merge_from as merge_from
+use Rattle.merging.proofs.merge as merge
 use Rattle.ranked.proofs.form.into_ranked as into_ranked
 use Rattle.ranked.proofs.form.«into_open» as leaving
 use Rattle.idset.proofs.read.get as get
@@ -52,6 +55,8 @@ use Rattle.inserts.proofs.insert.set_if_new.Symbol as set_if_new-at
 use Rattle.inserts.proofs.insert.set.Symbol as set-at
 use Rattle.inserts.proofs.insert.set_prepared.Symbol as set_prepared-at
 use Rattle.prepare.proofs.pre_allocate.Symbol as pre_allocate-at
+use Rattle.merging.proofs.merge_from.Symbol as merge_from-at
+use Rattle.merging.proofs.merge.Symbol as merge-at
 use Rattle.ranked.proofs.form.into_ranked.Symbol as into_ranked-at
 use Rattle.ranked.proofs.form.«into_open».Symbol as leaving-at
 use Rattle.idset.proofs.read.get.Symbol as get-at
@@ -79,6 +84,8 @@ use Rattle.inserts.proofs.insert.set_if_new.Met as set_if_new-met
 use Rattle.inserts.proofs.insert.set.Met as set-met
 use Rattle.inserts.proofs.insert.set_prepared.Met as set_prepared-met
 use Rattle.prepare.proofs.pre_allocate.Met as pre_allocate-met
+use Rattle.merging.proofs.merge_from.Met as merge_from-met
+use Rattle.merging.proofs.merge.Met as merge-met
 use Rattle.ranked.proofs.form.into_ranked.Met as into_ranked-met
 use Rattle.ranked.proofs.form.«into_open».Met as leaving-met
 use Rattle.idset.proofs.read.get.Met as get-met
@@ -118,6 +125,12 @@ module _ {M : Type 1} (𝓤 : URA M) (H : Heap 𝓤) where
 
     pub pre-allocate-is : pre_allocate.spec 𝓤 H A m run ≡ Ensures 𝓤 H A pre_allocate.ended (λ κs a r e. Does (four a) (calls.prepare (a .1 .1 .1 .1 .0)) (that r) (four e))
     pre-allocate-is = refl
+
+    pub merge-from-is : merge_from.spec 𝓤 H A m run ≡ Ensures 𝓤 H A merge_from.ended (λ κs a r e. Joins (four a) (four (a .1 .1 .1 .1)) union.merge-from r (four e) (four (a .1 .1 .1 .1)))
+    merge-from-is = refl
+
+    pub merge-is : merge.spec 𝓤 H A m run ≡ Ensures 𝓤 H A merge.ended (λ κs a r e. Joins (four a) (four (a .1 .1 .1 .1)) union.merge r (four e) (four (e .1 .1 .1 .1)))
+    merge-is = refl
 
     pub into-ranked-is : into_ranked.spec 𝓤 H A m run ≡ Ensures 𝓤 H A into_ranked.ended (λ κs a r e. Does (four a) calls.rank-up (that r) (two a e))
     into-ranked-is = refl
@@ -205,6 +218,14 @@ module _ {M : Type 1} (𝓤 : URA M) (H : Heap 𝓤) where
     pub pre-allocate-meets : Meets 𝓤 H (𝓖 .A) pre_allocate.signature (𝓡 .run pre_allocate-at.routine)
         (Ensures 𝓤 H (𝓖 .A) pre_allocate.ended (λ κs a r e. Does (four a) (calls.prepare (a .1 .1 .1 .1 .0)) (that r) (four e)))
     pre-allocate-meets = pre_allocate-met.met 𝓤 H 𝓜 𝓖 𝓡
+
+    pub merge-from-meets : Meets 𝓤 H (𝓖 .A) merge_from.signature (𝓡 .run merge_from-at.routine)
+        (Ensures 𝓤 H (𝓖 .A) merge_from.ended (λ κs a r e. Joins (four a) (four (a .1 .1 .1 .1)) union.merge-from r (four e) (four (a .1 .1 .1 .1))))
+    merge-from-meets = merge_from-met.met 𝓤 H 𝓜 𝓖 𝓡
+
+    pub merge-meets : Meets 𝓤 H (𝓖 .A) merge.signature (𝓡 .run merge-at.routine)
+        (Ensures 𝓤 H (𝓖 .A) merge.ended (λ κs a r e. Joins (four a) (four (a .1 .1 .1 .1)) union.merge r (four e) (four (e .1 .1 .1 .1))))
+    merge-meets = merge-met.met 𝓤 H 𝓜 𝓖 𝓡
 
     pub into-ranked-meets : Meets 𝓤 H (𝓖 .A) into_ranked.signature (𝓡 .run into_ranked-at.routine)
         (Ensures 𝓤 H (𝓖 .A) into_ranked.ended (λ κs a r e. Does (four a) calls.rank-up (that r) (two a e)))

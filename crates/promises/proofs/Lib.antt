@@ -5,6 +5,7 @@ pub mod Unique
 pub mod Returns
 pub mod Cutting
 pub mod Listings
+pub mod Unions
 pub mod Cases
 pub mod Ensures
 pub mod Contracts

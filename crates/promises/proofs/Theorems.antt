@@ -7,7 +7,8 @@ use lib.IntN.{ℤ, pos}
 use lib.ListN.{length, getD}
 use Rattle.sums.specs.Ids.{count, total, rank}
 use Rattle.sums.proofs.Ranks.{nth-member, nth-one}
-use Rattle.document.specs.State.{State, empty}
+use Rattle.document.specs.State.{State}
+use Rattle.document.specs.Union.{Join}
 use Rattle.document.specs.Calls.{Call, Fitting, Ask, Said, whether, that, many, Refuses, rank-up, leave, iterate, rank-of, listed, check}
 use Rattle.document.specs.Answers.{answer, rankAnswer, reply}
 use Rattle.document.specs.declared.sizes.Sizes.{Sizes}
@@ -19,7 +20,7 @@ use Rattle.document.specs.declared.answer.Listing.{Listing}
 use Rattle.document.specs.declared.plan.Plan.{Plan}
 use Rattle.document.specs.declared.plan.Planning.{Planning}
 use Rattle.document.specs.declared.plan.Planning.the-variants as planning
-use Rattle.document.proofs.Threes.{answer-not-three, reply-not-three, plan-not-three}
+use Rattle.document.proofs.Threes.{answer-not-three, reply-not-three, union-not-three, plan-not-three}
 use Rattle.layout.specs.Mem.{Mem}
 use Rattle.layout.specs.Meaning.{stateOf, ranked}
 use Rattle.layout.specs.Follows.{Follows}
@@ -34,9 +35,13 @@ use Rattle.contracts.proofs.Spares.{spare}
 use Rattle.contracts.proofs.Takes.{lowest-free as takes-lowest}
 use Rattle.contracts.specs.Runs.{ranBy}
 use Rattle.contracts.specs.Runs as runs
-use Rattle.contracts.specs.Does.{Does, Answers, SetsUp}
+use Rattle.contracts.specs.Does.{Does, Answers, SetsUp, Joins}
 use Rattle.contracts.proofs.Steps.{does}
 use Rattle.contracts.proofs.SetUps.{sets-up}
+use Rattle.contracts.proofs.Joins.{joins}
+use Rattle.unions.specs.Union.{Met, unionBy}
+use Rattle.unions.specs.Takes.{TakesDenseFirst}
+use Rattle.unions.proofs.Spares.{union-here-spare, union-there-spare}
 use Rattle.cuts.specs.Plan.{Cut, planBy}
 use Rattle.cuts.specs.Promise.{Plans}
 use Rattle.cuts.proofs.Plans.{plan-refused, plans-by}
@@ -44,12 +49,13 @@ use Rattle.promises.specs.Histories.{Story, Ran, last, described, Kept}
 use Rattle.promises.specs.Cuts.{Cuts}
 use Rattle.promises.specs.Listings.{Asked, Asking, AllListed}
 use Rattle.promises.specs.Cases.{AllSay, table}
-use Rattle.promises.proofs.SetUps.{fit, stays, not-three}
+use Rattle.promises.proofs.SetUps.{stays, not-three}
 use Rattle.promises.proofs.Kept.{all-kept}
 use Rattle.promises.proofs.Refusals.{model-stays}
 use Rattle.promises.proofs.Unique.{asked, asked-once, asked-some}
 use Rattle.promises.proofs.Returns.{up-and-back}
 use Rattle.promises.proofs.Cutting.{cut-set, spare-bounds}
+use Rattle.promises.proofs.Unions.{union-stays, union-lowest}
 use Rattle.promises.proofs.Listings.{lists-all, ends-soon, some-listed}
 use Rattle.promises.proofs.Cases.{table-says}
 
@@ -113,8 +119,8 @@ module _ (x : Mem) where
 
   pub spare-stays-union : (y : Mem) (j : Join) (a : Outcome) (u v : Mem) → Joins x y j a u v → Spare (head x) x u × Spare (head y) y v
   spare-stays-union y j a u v d =
-      let p = union-spare x y j in
-      (subst (λ (m : Met). Spare (head x) x (m .here)) (sym (d .by)) (p .0), subst (λ (m : Met). Spare (head y) y (m .there)) (sym (d .by)) (p .1))
+      (subst (λ (m : Met). Spare (head x) x (m .here)) (sym (d .by)) (union-here-spare x y j),
+      subst (λ (m : Met). Spare (head y) y (m .there)) (sym (d .by)) (union-there-spare x y j))
 
   -- nor boundaries past the last
   pub spare-stays-plan : (S : ℕ) (bs : List ℤ) (p : Plan) (cs : List ℤ) → Plans x S bs (planning.Made p) cs
@@ -135,6 +141,10 @@ module _ (x : Mem) (w : Follows x) where
   -- the row or page that a chunk newly takes is the lowest that was free; over several chunks in rising order
   pub lowest-free : (c : Call) (a : Said) (y : Mem) → Fitting c → Does x c a y → Takes x c y
   lowest-free c a y f d = takes-lowest x c a y w f d
+
+  -- of a union: first those that become dense, in rising order, then new rows
+  pub lowest-free-union : (y : Mem) → Follows y → (j : Join) (u v : Mem) → Joins x y j Done u v → TakesDenseFirst x u
+  lowest-free-union y s j u v d = union-lowest x y j w s (d .by)
 
   -- it is never the cause of a 3
   pub never-three : (c : Call) (a : Said) (y : Mem) → Does x c a y → Refuses a 3 → ⊥
