@@ -5,3 +5,4 @@ pub mod Pages
 pub mod Turns
 pub mod Ways
 pub mod Unites
+pub mod Slots

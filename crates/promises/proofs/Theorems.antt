@@ -118,9 +118,10 @@ module _ (x : Mem) where
   spare-stays-set-up h a y s = subst (λ (r : Did). Spare h x (r .after)) (sym (s .by)) (set-up-spare h x)
 
   pub spare-stays-union : (y : Mem) (j : Join) (a : Outcome) (u v : Mem) → Joins x y j a u v → Spare (head x) x u × Spare (head y) y v
-  spare-stays-union y j a u v d =
-      (subst (λ (m : Met). Spare (head x) x (m .here)) (sym (d .by)) (union-here-spare x y j),
-      subst (λ (m : Met). Spare (head y) y (m .there)) (sym (d .by)) (union-there-spare x y j))
+  spare-stays-union y j a u v d = (
+    subst (λ (m : Met). Spare (head x) x (m .here)) (sym (d .by)) (union-here-spare x y j),
+    subst (λ (m : Met). Spare (head y) y (m .there)) (sym (d .by)) (union-there-spare x y j),
+  )
 
   -- nor boundaries past the last
   pub spare-stays-plan : (S : ℕ) (bs : List ℤ) (p : Plan) (cs : List ℤ) → Plans x S bs (planning.Made p) cs

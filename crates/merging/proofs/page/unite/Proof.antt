@@ -7,10 +7,8 @@ use lib.ListN.{length, take, drop}
 use Rattle.dense.specs.Bits.{orWords}
 use Rattle.layout.specs.Sizes.{wide}
 use Rattle.layout.specs.Places.{pagePart}
-use Rattle.layout.proofs.Parts.{slot-in}
-use Rattle.layout_laws.proofs.Sizes.{part-length}
-use Rattle.layout.proofs.Lent.{length-lent}
 use Rattle.steps.proofs.Lent.{put-lent}
+use Rattle.merging.proofs.Slots.{page-inside, as-wide-there}
 use borrow.Author.Needs.{needs}
 use Rattle.merging.proofs.page.unite.Statement.{statement}
 use Rattle.merging.proofs.page.unite.Tie as tie
@@ -19,23 +17,14 @@ abbrev start : tie.After-pow2 → tie.Start
 start w = w .before .before .before .before .before
 
 page-in : (w : tie.After-pow2) → w .before .before .page-at .result + w .pow2 .result ≤ length (start w .args .pages .now)
-page-in w =
-    let a = start w in
-    let s = slot-in (wide (a .args .h)) (a .args .h .p) (a .args .p) (length (a .args .pages .now)) (a .pre .1) (a .pre .0 .in-pages) in
-    omega (arith, w .before .before .page-at .ensures, w .pow2 .ensures)
+page-in w = let a = start w in page-inside (a .args .h) (a .args .pages .now) (a .args .p) _ _ (a .pre .0 .in-pages) (a .pre .1) (w .before .before .page-at .ensures) (w .pow2 .ensures)
 
--- both are as wide
 same-wide : (p : tie.After-part) → let w = p .before .before in let b = w .before .before .page-at .result in
     length (take (b + w .pow2 .result - b) (drop b (start w .args .pages .now))) ≡ length (p .part .result .now)
 same-wide p =
-    let w = p .before .before in
-    let a = start w in
-    let g = a .args in
-    let e = length-lent (g .pages .now) (w .before .before .page-at .result) (w .pow2 .result) (page-in w) in
-    let f = ap length (p .part .ensures) ∙ part-length (g .spages .now) (g .i * wide (g .g)) (wide (g .g))
-    (slot-in (wide (g .g)) (g .g .p) (g .i) (length (g .spages .now)) (a .pre .2) (a .pre .0 .from-pages)) in
-    let k = ap (λ (s : ℕ). 2 ^ (s - 6)) (a .pre .0 .same) in
-    omega (arith, w .pow2 .ensures)
+    let w = p .before .before in let a = start w in
+    as-wide-there (a .args .h) (a .args .pages .now) (a .args .p) _ _ (a .pre .0 .in-pages) (a .pre .1) (w .before .before .page-at .ensures) (w .pow2 .ensures)
+    (a .args .g) (a .args .spages .now) (a .args .i) (a .pre .0 .from-pages) (a .pre .2) (a .pre .0 .same) _ (p .part .ensures)
 
 page-at-requires : tie.Need-page-at-requires
 page-at-requires c κs = search needs
