@@ -25,8 +25,8 @@ pub enum Perhaps {
     Refused(u64),
 }
 
-// Up to 64 member ids, ascending, with zeros in unused places; whether none is left out, and where the next record starts. A refusal has a field of its own, 0 where
-// there is none, and every other field is 0 beside one.
+// Up to 64 member ids, ascending, with zeros in unused places; whether none is left out, and where the next record starts.
+// A refusal has a field of its own, 0 where there is none, and every other field is 0 beside one.
 #[repr(C)]
 pub struct Listing {
     pub ids: [i64; 64],

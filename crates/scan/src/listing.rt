@@ -46,7 +46,8 @@ fn fill_at(
     out: &mut [i64],
     k: usize,
 ) -> Step
-    requires { ⌜ (9 ≤ headerAt (now table) .s) × (headerAt (now table) .s ≤ 25) × (base + 2 ^ headerAt (now table) .s ≤ 2 ^ 63) × (from < 2 ^ headerAt (now table) .s) × (k ≤ length (now out)) ⌝ }
+    requires { ⌜ (9 ≤ headerAt (now table) .s) × (headerAt (now table) .s ≤ 25) × (base + 2 ^ headerAt (now table) .s ≤ 2 ^ 63)
+        × (from < 2 ^ headerAt (now table) .s) × (k ≤ length (now out)) ⌝ }
     ensures { λ r. ⌜ (let x = memOf (pages .entry) (rows .entry) (blocks .entry) (table .entry) in
         filled r (now (out .exit)) ≡ filledAt x base from (now (out .entry)) k (spotBy x w)) ⌝ }
 {
