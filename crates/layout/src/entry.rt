@@ -94,7 +94,7 @@ pub fn chunk_by(table: &[u64], e: u64) -> u64
     requires { ⌜ (getD (now table) 2 0 ≤ 262144) × (e ≤ 327680) ⌝ }
     ensures { λ c. ⌜ c ≡ chunkAt (headerAt (now (table .entry))) (now (table .entry)) e ⌝ }
 {
-    let d = element::at(table, 2);
+    let d = head::direct(table);
     if e < d {
         return e;
     }

@@ -16,6 +16,7 @@ use layout::head;
 use layout::place;
 use layout::place::Place;
 use numbers::element;
+use numbers::id;
 use numbers::order;
 use numbers::power;
 
@@ -33,14 +34,14 @@ pub fn key_is(table: &[u64], h: Sizes, j: u64) -> bool
 {
     let k = element::at(table, 16 + 2 * h.d + 3 * j);
     let next = element::at(table, 16 + 2 * h.d + 3 * (j + 1));
-    (h.d <= k) & (k < power::pow2(63 - h.s)) & ((element::at(table, 7) <= j + 1) | (k < next))
+    (h.d <= k) & (k < power::pow2(63 - h.s)) & ((head::over_count(table) <= j + 1) | (k < next))
 }
 
 pub fn keys_are(table: &[u64], h: Sizes) -> bool
     requires { ⌜ InRange h × (overCount (now table) ≤ 65536) ⌝ }
     ensures { λ b. ⌜ b ≡ allTo (keyIs h (now (table .entry))) (overCount (now (table .entry))) ⌝ }
 {
-    let n = element::at(table, 7);
+    let n = head::over_count(table);
     let mut ok = true;
     let mut j: u64 = 0;
     while j < n {
@@ -55,7 +56,7 @@ pub fn words_are(table: &[u64], h: Sizes) -> bool
     requires { ⌜ InRange h × (overCount (now table) ≤ 65536) ⌝ }
     ensures { λ b. ⌜ b ≡ allTo (wordIs h (now (table .entry))) (overCount (now (table .entry))) ⌝ }
 {
-    let n = element::at(table, 7);
+    let n = head::over_count(table);
     let mut ok = true;
     let mut j: u64 = 0;
     while j < n {
@@ -70,7 +71,7 @@ pub fn over_is(table: &[u64], h: Sizes) -> bool
     requires { ⌜ InRange h × (tableSize h ≤ length (now table)) × (overCount (now table) ≤ h .v) ⌝ }
     ensures { λ b. ⌜ b ≡ overIs h (now (table .entry)) ⌝ }
 {
-    let n = element::at(table, 7);
+    let n = head::over_count(table);
     keys_are(table, h)
         & words_are(table, h)
         & zeros::zeros64(table, head::over_at(h, n), head::over_words(h, n))
@@ -104,7 +105,7 @@ pub fn entries_are(table: &[u64], h: Sizes) -> bool
     requires { ⌜ InRange h × (overCount (now table) ≤ 65536) ⌝ }
     ensures { λ b. ⌜ b ≡ entriesAre h (now (table .entry)) ⌝ }
 {
-    let n = h.d + element::at(table, 7);
+    let n = h.d + head::over_count(table);
     let mut ok = true;
     let mut rows: u64 = 0;
     let mut pages: u64 = 0;
@@ -124,10 +125,10 @@ pub fn ranks_rise(table: &[u64], h: Sizes) -> bool
     requires { ⌜ InRange h × (overCount (now table) ≤ 65536) ⌝ }
     ensures { λ b. ⌜ b ≡ ranksRise h (now (table .entry)) ⌝ }
 {
-    if element::at(table, 6) != 1 {
+    if head::mode(table) != head::RANKED {
         return true;
     }
-    let n = h.d + element::at(table, 7);
+    let n = h.d + head::over_count(table);
     let mut ok = true;
     let mut prefix: u64 = 0;
     let mut e: u64 = 0;
@@ -137,8 +138,8 @@ pub fn ranks_rise(table: &[u64], h: Sizes) -> bool
         prefix = next;
         e += 1;
     }
-    let total = element::at(table, 8);
-    ok & (prefix <= total) & (total < 9223372036854775808)
+    let total = head::total(table);
+    ok & (prefix <= total) & (total < id::LIMIT)
 }
 
 // The sizes are allowed, the slices long enough, the mode is known and the overflow entries in use fit.
@@ -155,8 +156,8 @@ pub fn head_is(h: Sizes, pages: &[u64], rows: &[u32], blocks: &[u32], table: &[u
         blocks.len() as u64,
         table.len() as u64,
     )
-        & (element::at(table, 6) <= 1)
-        & (element::at(table, 7) <= h.v)
+        & (head::mode(table) <= head::RANKED)
+        & (head::over_count(table) <= h.v)
 }
 
 // The table past its sizes: unused words, overflow entries, all entries, prefixes.

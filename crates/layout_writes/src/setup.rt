@@ -9,6 +9,7 @@ ghost use Rattle.document.specs.Sizes.{InRange};
 ghost use Rattle.layout.specs.Sizes.{Roomy, tableSize};
 ghost use Rattle.layout.specs.Tests.{inRange, roomy};
 ghost use Rattle.layout.specs.SetUp.{zeroed, freshTable, fresh};
+use document::refusal;
 use document::sizes::Sizes;
 use layout::head;
 
@@ -81,10 +82,10 @@ pub fn refusal(h: Sizes, pages: u64, rows: u64, blocks: u64, table: u64) -> u64
     ensures { λ k. ⌜ k ≡ cond (inRange h) (cond (roomy h pages rows blocks table) 0 2) 1 ⌝ }
 {
     if !head::in_range(h) {
-        return 1;
+        return refusal::OUTSIDE_SIZES;
     }
     if !head::has_room(h, pages, rows, blocks, table) {
-        return 2;
+        return refusal::TOO_SHORT;
     }
     0
 }

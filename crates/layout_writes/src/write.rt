@@ -34,7 +34,7 @@ pub fn put_over(table: &mut [u64], h: Sizes, c: u64, w: u64, k: u64)
     requires { ⌜ (h .d ≤ 262144) × (overCount (now table) ≤ 65536) × (k ≤ overCount (now table)) ⌝ }
     ensures { λ _. ⌜ now (table .exit) ≡ overPut h (now (table .entry)) c w k ⌝ }
 {
-    let n = element::at(table, 7);
+    let n = head::over_count(table);
     let a = 16 + 2 * h.d + 3 * k;
     if (k < n) & (element::at(table, a) == c) {
         element::put(table, a + 1, w);
@@ -55,7 +55,7 @@ pub fn put_word(table: &mut [u64], h: Sizes, c: u64, w: u64)
         element::put(table, 16 + 2 * c, w);
         return;
     }
-    let k = find::over_place(table, 16 + 2 * h.d, element::at(table, 7), c);
+    let k = find::over_place(table, 16 + 2 * h.d, head::over_count(table), c);
     put_over(table, h, c, w, k);
 }
 
@@ -64,7 +64,7 @@ pub fn set_word(table: &mut [u64], c: u64, w: u64)
     requires { ⌜ (c < 2 ^ 62) × (getD (now table) 2 0 ≤ c → (getD (now table) 2 0 ≤ 262144) × (overCount (now table) ≤ 65536)) ⌝ }
     ensures { λ _. ⌜ now (table .exit) ≡ putWord (headerAt (now (table .entry))) (now (table .entry)) c w ⌝ }
 {
-    if c < element::at(table, 2) {
+    if c < head::direct(table) {
         element::put(table, 16 + 2 * c, w);
         return;
     }

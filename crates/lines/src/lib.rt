@@ -7,8 +7,7 @@ ghost use Prim.Native.Nat.{_^_, _≤_};
 ghost use lib.IntN.{pos, negℤ};
 ghost use Rattle.lines.specs.Reader.{digitOn, next, emptyIn, sizeIn, idIn};
 ghost use Rattle.lines.specs.declared.Line.the-variants.{Empty};
-use signs::HALF;
-use signs::SMALLEST;
+use numbers::id as ids;
 
 // What is kept of a line so far: whether it has a minus, how many digits, and their number.
 pub enum Line {
@@ -107,8 +106,8 @@ fn negated(v: u64) -> i64
     requires { ⌜ v ≤ 2 ^ 63 ⌝ }
     ensures { λ z. ⌜ z ≡ negℤ (pos v) ⌝ }
 {
-    if v == HALF {
-        return SMALLEST;
+    if v == ids::LIMIT {
+        return ids::SMALLEST;
     }
     0 - (v as i64)
 }
@@ -127,12 +126,12 @@ pub fn id_line(l: Line) -> Id
                 return Id::Bad;
             }
             if minus {
-                if HALF < v {
+                if ids::LIMIT < v {
                     return Id::Bad;
                 }
                 return Id::Of(negated(v));
             }
-            if HALF <= v {
+            if ids::LIMIT <= v {
                 return Id::Bad;
             }
             Id::Of(v as i64)

@@ -7,6 +7,7 @@ use document::answer::Listing;
 use libc::STDOUT_FILENO;
 use lines::signs;
 use lines::words;
+use numbers::id as id_limits;
 
 pub fn text(bytes: &[u8]) {
     io::write_all(STDOUT_FILENO, bytes);
@@ -120,7 +121,7 @@ pub fn plan(a: PlanAnswer, c: &[i64]) {
 
 // A partition's ends: `min` for the smallest i64, `end` for none.
 fn span(i: IdsAnswer) {
-    if i.low == signs::SMALLEST {
+    if i.low == id_limits::SMALLEST {
         text(b"min");
     } else {
         id(b"", i.low);

@@ -31,9 +31,6 @@ enum Step {
     Bad,
 }
 
-// The largest id.
-const LARGEST: i64 = 9223372036854775807;
-
 // The ids of the part that word w names, from an offset on, in the chunk whose first id is base.
 fn fill_at(
     pages: &[u64],
@@ -166,10 +163,10 @@ fn any_past(pages: &[u64], rows: &[u32], blocks: &[u32], table: &[u64], last: i6
     ensures { λ r. ⌜ (let x = memOf (pages .entry) (rows .entry) (blocks .entry) (table .entry) in
         r ≡ anyBy x (sucℤ last) (pos (2 ^ 63 - 1))) ⌝ }
 {
-    if last == LARGEST {
+    if last == i64::MAX {
         return Truth::Is(false);
     }
-    range::any_in_range(pages, rows, blocks, table, last + 1, LARGEST)
+    range::any_in_range(pages, rows, blocks, table, last + 1, i64::MAX)
 }
 
 // Every field but the refusal is 0.

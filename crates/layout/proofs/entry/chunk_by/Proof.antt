@@ -5,11 +5,11 @@ use borrow.Author.Needs.{needs}
 use Rattle.layout.proofs.entry.chunk_by.Statement.{statement}
 use Rattle.layout.proofs.entry.chunk_by.Tie as tie
 
-at-requires : tie.Need-at-requires
-at-requires c κs = search needs
+direct-requires : tie.Need-direct-requires
+direct-requires c κs = search needs
 
 returns : tie.Need-returns
-returns c = let a = c .before .before .before .args in chunk-direct (a .table .now) (a .e) _ (c .before .at .ensures) (c .if1 .taken)
+returns c = let a = c .before .before .before .args in chunk-direct (a .table .now) (a .e) _ (c .before .direct .ensures) (c .if1 .taken)
 
 mul-at : tie.Need-mul-at
 mul-at c = search needs
@@ -23,11 +23,11 @@ mul-at-2 c = search needs
 add-at-2 : tie.Need-add-at-2
 add-at-2 c = search needs
 
-at-requires-2 : tie.Need-at-requires-2
-at-requires-2 c κs = search needs
+at-requires : tie.Need-at-requires
+at-requires c κs = search needs
 
 returns-2 : tie.Need-returns-2
-returns-2 c = let a = c .before .before .before .before .args in c .at2 .ensures ∙ chunk-over (a .table .now) (a .e) _ (c .before .before .at .ensures) (c .before .if1 .left)
+returns-2 c = let a = c .before .before .before .before .args in c .at .ensures ∙ chunk-over (a .table .now) (a .e) _ (c .before .before .direct .ensures) (c .before .if1 .left)
 
 pub chunk-by-spec : {M : Type 1} → statement M
-chunk-by-spec = tie.close (tie.spec at-requires returns mul-at add-at mul-at-2 add-at-2 at-requires-2 returns-2)
+chunk-by-spec = tie.close (tie.spec direct-requires returns mul-at add-at mul-at-2 add-at-2 at-requires returns-2)

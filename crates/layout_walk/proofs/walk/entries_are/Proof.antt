@@ -21,20 +21,20 @@ Inv-loop table h n ok₀ rows₀ pages₀ e₀ ok rows pages e =
 abbrev μ-loop : tie.MeasureT-loop
 μ-loop table h n ok₀ rows₀ pages₀ e₀ ok rows pages e = n - e
 
-at-requires : tie.Need-at-requires Inv-loop μ-loop
-at-requires c κs = search needs
+over-count-requires : tie.Need-over-count-requires Inv-loop μ-loop
+over-count-requires c κs = search needs
 
 add-n : tie.Need-add-n Inv-loop μ-loop
-add-n c = omega (arith, c .before .at .ensures, c .before .before .before .pre)
+add-n c = omega (arith, c .before .over-count .ensures, c .before .before .before .pre)
 
 loop-holds : tie.Need-loop-holds Inv-loop μ-loop
 loop-holds c = (omega arith, omega arith, omega arith, all-none _, sym (count-zero _), sym (count-zero _))
 
 place-at-requires : tie.Need-place-at-requires Inv-loop μ-loop
-place-at-requires c κs = let p = c .before .before .before .before .before .pre in (p .0, omega (arith, c .before .before .before .at .ensures, p))
+place-at-requires c κs = let p = c .before .before .before .before .before .pre in (p .0, omega (arith, c .before .before .before .over-count .ensures, p))
 
 place-is-requires : tie.Need-place-is-requires Inv-loop μ-loop
-place-is-requires c κs = let p = c .before .before .before .before .before .before .pre in (p .0, omega (arith, c .before .before .before .before .at .ensures, p))
+place-is-requires c κs = let p = c .before .before .before .before .before .before .pre in (p .0, omega (arith, c .before .before .before .before .over-count .ensures, p))
 
 has-row-requires : tie.Need-has-row-requires Inv-loop μ-loop
 has-row-requires c κs = search needs
@@ -82,7 +82,7 @@ returns : tie.Need-returns Inv-loop μ-loop
 returns c =
     let l = c .before .before .before .loop in
     let a = c .before .before .before .before .before .before .before .args in
-    let e : l .e ≡ a .h .d + getD (a .table .now) 7 0 = omega (arith, c .before .before .before .before .before .at .ensures) in
+    let e : l .e ≡ a .h .d + getD (a .table .now) 7 0 = omega (arith, c .before .before .before .before .before .over-count .ensures) in
     entries-pass (a .h) (a .table .now) (l .e) e _ _ _ _ _ (l .inv .3) (c .before .rows-owned .ensures) (l .inv .4) (c .pages-owned .ensures) (l .inv .5)
 
 pub entries-are-spec : {M : Type 1} → statement M
@@ -91,7 +91,7 @@ entries-are-spec =
     (tie.spec
     Inv-loop
     μ-loop
-    at-requires
+    over-count-requires
     add-n
     loop-holds
     place-at-requires

@@ -15,16 +15,16 @@ returns c = let a = c .before .before .before .before .before .before .args in n
 has-room-requires : tie.Need-has-room-requires
 has-room-requires c κs = let a = c .before .before .before .before .before .before .args in is-range (a .h) (memOf (a .pages) (a .rows) (a .blocks) (a .table)) _ (c .before .in-range .ensures) (not-false _ (c .if1 .left))
 
-at-requires : tie.Need-at-requires
-at-requires c κs = search needs
+mode-requires : tie.Need-mode-requires
+mode-requires c κs = search needs
 
-at-requires-2 : tie.Need-at-requires-2
-at-requires-2 c κs = search needs
+over-count-requires : tie.Need-over-count-requires
+over-count-requires c κs = search needs
 
 returns-2 : tie.Need-returns-2
-returns-2 c = let a = c .before .before .before .before .before .before .before .before .before .before .args in head-rest (a .h) (memOf (a .pages) (a .rows) (a .blocks) (a .table)) _ (c .before .before .before .before .before .in-range .ensures) (not-false _ (c .before .before .before .before .if1 .left)) _ _ _ (c .before .before .before .has-room .ensures) (c .before .before .at .ensures) (c .before .at2 .ensures)
+returns-2 c = let a = c .before .before .before .before .before .before .before .before .before .before .args in head-rest (a .h) (memOf (a .pages) (a .rows) (a .blocks) (a .table)) _ (c .before .before .before .before .before .in-range .ensures) (not-false _ (c .before .before .before .before .if1 .left)) _ _ _ (c .before .before .before .has-room .ensures) (c .before .before .mode .ensures) (c .before .over-count .ensures)
 
 pub head-is-spec : {M : Type 1} → statement M
 head-is-spec =
     tie.close
-    (tie.spec in-range-requires returns has-room-requires at-requires at-requires-2 returns-2)
+    (tie.spec in-range-requires returns has-room-requires mode-requires over-count-requires returns-2)

@@ -43,8 +43,8 @@ sub-pow2 c = search needs
 pow2-requires : tie.Need-pow2-requires
 pow2-requires c κs = search needs
 
-at-requires-3 : tie.Need-at-requires-3
-at-requires-3 c κs = search needs
+over-count-requires : tie.Need-over-count-requires
+over-count-requires c κs = search needs
 
 add-result : tie.Need-add-result
 add-result c = search needs
@@ -53,7 +53,7 @@ returns : tie.Need-returns
 returns c =
     let k = c .before .before .before .before .before .before in
     let a = k .before .before .before .args in
-    key-passes (a .h) (a .table .now) (a .j) _ _ _ _ (k .at .ensures) (c .before .before .before .before .at2 .ensures) (c .before .pow2 .ensures) (c .at3 .ensures)
+    key-passes (a .h) (a .table .now) (a .j) _ _ _ _ (k .at .ensures) (c .before .before .before .before .at2 .ensures) (c .before .pow2 .ensures) (c .over-count .ensures)
 
 pub key-is-spec : {M : Type 1} → statement M
 key-is-spec =
@@ -72,6 +72,6 @@ key-is-spec =
     at-requires-2
     sub-pow2
     pow2-requires
-    at-requires-3
+    over-count-requires
     add-result
     returns)

@@ -15,17 +15,17 @@ Inv-loop table h n ok₀ j₀ ok j = (j ≤ n) × (ok ≡ allTo (keyIs h table) 
 abbrev μ-loop : tie.MeasureT-loop
 μ-loop table h n ok₀ j₀ ok j = n - j
 
-at-requires : tie.Need-at-requires Inv-loop μ-loop
-at-requires c κs = search needs
+over-count-requires : tie.Need-over-count-requires Inv-loop μ-loop
+over-count-requires c κs = search needs
 
 loop-holds : tie.Need-loop-holds Inv-loop μ-loop
 loop-holds c = (omega arith, all-none _)
 
 key-is-requires : tie.Need-key-is-requires Inv-loop μ-loop
-key-is-requires c κs = (c .before .before .before .before .pre .0, omega (arith, c .before .before .at .ensures, c .before .before .before .before .pre .1))
+key-is-requires c κs = (c .before .before .before .before .pre .0, omega (arith, c .before .before .over-count .ensures, c .before .before .before .before .pre .1))
 
 add-j : tie.Need-add-j Inv-loop μ-loop
-add-j c = omega (arith, c .before .before .before .at .ensures, c .before .before .before .before .before .pre .1)
+add-j c = omega (arith, c .before .before .before .over-count .ensures, c .before .before .before .before .before .pre .1)
 
 loop-less : tie.Need-loop-less Inv-loop μ-loop
 loop-less c = omega arith
@@ -34,7 +34,7 @@ loop-again : tie.Need-loop-again Inv-loop μ-loop
 loop-again c = let l = c .before .before .loop in (omega arith, all-more _ (l .j) _ _ (l .inv .1) (c .key-is .ensures))
 
 returns : tie.Need-returns Inv-loop μ-loop
-returns c = let l = c .before .loop in all-end _ (l .j) _ _ (l .inv .1) (omega arith) (omega arith) ∙ ap (allTo _) (c .before .before .at .ensures)
+returns c = let l = c .before .loop in all-end _ (l .j) _ _ (l .inv .1) (omega arith) (omega arith) ∙ ap (allTo _) (c .before .before .over-count .ensures)
 
 pub keys-are-spec : {M : Type 1} → statement M
 keys-are-spec =
@@ -42,7 +42,7 @@ keys-are-spec =
     (tie.spec
     Inv-loop
     μ-loop
-    at-requires
+    over-count-requires
     loop-holds
     key-is-requires
     add-j

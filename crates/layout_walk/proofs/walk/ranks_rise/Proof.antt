@@ -18,17 +18,17 @@ Inv-loop table h n ok₀ prefix₀ e₀ ok prefix e = (e ≤ n) × (ok ≡ allTo
 abbrev μ-loop : tie.MeasureT-loop
 μ-loop table h n ok₀ prefix₀ e₀ ok prefix e = n - e
 
-at-requires : tie.Need-at-requires Inv-loop μ-loop
-at-requires c κs = search needs
+mode-requires : tie.Need-mode-requires Inv-loop μ-loop
+mode-requires c κs = search needs
 
 returns : tie.Need-returns Inv-loop μ-loop
-returns c = rise-open _ _ _ (c .before .at .ensures) (c .if1 .taken)
+returns c = rise-open _ _ _ (c .before .mode .ensures) (c .if1 .taken)
 
-at-requires-2 : tie.Need-at-requires-2 Inv-loop μ-loop
-at-requires-2 c κs = search needs
+over-count-requires : tie.Need-over-count-requires Inv-loop μ-loop
+over-count-requires c κs = search needs
 
 add-n : tie.Need-add-n Inv-loop μ-loop
-add-n c = omega (arith, c .before .at2 .ensures, c .before .before .before .before .before .pre)
+add-n c = omega (arith, c .before .over-count .ensures, c .before .before .before .before .before .pre)
 
 loop-holds : tie.Need-loop-holds Inv-loop μ-loop
 loop-holds c = (omega arith, all-none _, refl)
@@ -37,7 +37,7 @@ abbrev start : tie.At-loop Inv-loop μ-loop → tie.Start Inv-loop μ-loop
 start l = l .before .before .before .before .before .before
 
 prefix-at-requires : tie.Need-prefix-at-requires Inv-loop μ-loop
-prefix-at-requires c κs = let l = c .before in let p = start l .pre in (p .0, omega (arith, l .before .before .at2 .ensures, p))
+prefix-at-requires c κs = let l = c .before in let p = start l .pre in (p .0, omega (arith, l .before .before .over-count .ensures, p))
 
 add-e : tie.Need-add-e Inv-loop μ-loop
 add-e c = omega arith
@@ -51,24 +51,24 @@ loop-again c =
     let at = t .before in
     let l = at .loop in
     let a = start at .args in
-    let n = at .before .before .at2 .ensures in
+    let n = at .before .before .over-count .ensures in
     let q = c .prefix-at .ensures in (
       omega arith,
       rises-more (a .h) (a .table .now) (l .e) _ (l .prefix) _ (omega (arith, n, t .loop-test .taken)) (l .inv .1) (l .inv .2) q,
       q ∙ ap (prefixBefore (a .h) (a .table .now)) (sym (add-one (l .e))),
     )
 
-at-requires-3 : tie.Need-at-requires-3 Inv-loop μ-loop
-at-requires-3 c κs = search needs
+total-requires : tie.Need-total-requires Inv-loop μ-loop
+total-requires c κs = search needs
 
 returns-2 : tie.Need-returns-2 Inv-loop μ-loop
 returns-2 c =
     let at = c .before .before in
     let l = at .loop in
     let a = start at .args in
-    let e : l .e ≡ a .h .d + getD (a .table .now) 7 0 = omega (arith, at .before .before .at2 .ensures) in
-    rise-ranked (a .h) (a .table .now) _ (at .before .before .before .before .at .ensures) (at .before .before .before .if1 .left) _ _
-    (rises-all (a .h) (a .table .now) (l .e) _ (l .prefix) _ e (l .inv .1) (l .inv .2) (c .at3 .ensures)) (c .at3 .ensures)
+    let e : l .e ≡ a .h .d + getD (a .table .now) 7 0 = omega (arith, at .before .before .over-count .ensures) in
+    rise-ranked (a .h) (a .table .now) _ (at .before .before .before .before .mode .ensures) (at .before .before .before .if1 .left) _ _
+    (rises-all (a .h) (a .table .now) (l .e) _ (l .prefix) _ e (l .inv .1) (l .inv .2) (c .total .ensures)) (c .total .ensures)
 
 pub ranks-rise-spec : {M : Type 1} → statement M
 ranks-rise-spec =
@@ -76,14 +76,14 @@ ranks-rise-spec =
     (tie.spec
     Inv-loop
     μ-loop
-    at-requires
+    mode-requires
     returns
-    at-requires-2
+    over-count-requires
     add-n
     loop-holds
     prefix-at-requires
     add-e
     loop-less
     loop-again
-    at-requires-3
+    total-requires
     returns-2)

@@ -17,17 +17,17 @@ Inv-loop table h n ok₀ j₀ ok j = (j ≤ n) × (ok ≡ allTo (wordIs h table)
 abbrev μ-loop : tie.MeasureT-loop
 μ-loop table h n ok₀ j₀ ok j = n - j
 
-at-requires : tie.Need-at-requires Inv-loop μ-loop
-at-requires c κs = search needs
+over-count-requires : tie.Need-over-count-requires Inv-loop μ-loop
+over-count-requires c κs = search needs
 
 loop-holds : tie.Need-loop-holds Inv-loop μ-loop
 loop-holds c = (omega arith, all-none _)
 
 over-word-requires : tie.Need-over-word-requires Inv-loop μ-loop
-over-word-requires c κs = (c .before .before .before .before .pre .0, omega (arith, c .before .before .at .ensures, c .before .before .before .before .pre .1))
+over-word-requires c κs = (c .before .before .before .before .pre .0, omega (arith, c .before .before .over-count .ensures, c .before .before .before .before .pre .1))
 
 add-j : tie.Need-add-j Inv-loop μ-loop
-add-j c = omega (arith, c .before .before .before .at .ensures, c .before .before .before .before .before .pre .1)
+add-j c = omega (arith, c .before .before .before .over-count .ensures, c .before .before .before .before .before .pre .1)
 
 loop-less : tie.Need-loop-less Inv-loop μ-loop
 loop-less c = omega arith
@@ -37,7 +37,7 @@ unfolding wordIs
 loop-again c = let l = c .before .before .loop in (omega arith, all-more _ (l .j) _ _ (l .inv .1) (ap (λ (w : ℕ). not (eqb w 0)) (c .over-word .ensures)))
 
 returns : tie.Need-returns Inv-loop μ-loop
-returns c = let l = c .before .loop in all-end _ (l .j) _ _ (l .inv .1) (omega arith) (omega arith) ∙ ap (allTo _) (c .before .before .at .ensures)
+returns c = let l = c .before .loop in all-end _ (l .j) _ _ (l .inv .1) (omega arith) (omega arith) ∙ ap (allTo _) (c .before .before .over-count .ensures)
 
 pub words-are-spec : {M : Type 1} → statement M
 words-are-spec =
@@ -45,7 +45,7 @@ words-are-spec =
     (tie.spec
     Inv-loop
     μ-loop
-    at-requires
+    over-count-requires
     loop-holds
     over-word-requires
     add-j

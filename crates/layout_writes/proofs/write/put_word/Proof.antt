@@ -26,20 +26,20 @@ mul-over-place c = search needs
 add-over-place : tie.Need-add-over-place
 add-over-place c = search needs
 
-at-requires : tie.Need-at-requires
-at-requires c κs = search needs
+over-count-requires : tie.Need-over-count-requires
+over-count-requires c κs = search needs
 
 over-place-requires : tie.Need-over-place-requires
-over-place-requires c κs = let few = c .before .before .before .before .before .before .pre .1 (c .before .before .before .if1 .left) in (search needs, omega (arith, c .at .ensures))
+over-place-requires c κs = let few = c .before .before .before .before .before .before .pre .1 (c .before .before .before .if1 .left) in (search needs, omega (arith, c .over-count .ensures))
 
 put-over-requires : tie.Need-put-over-requires
-put-over-requires c κs = let few = c .before .before .before .before .before .before .before .before .pre .1 (c .before .before .before .before .before .if1 .left) in (search needs, few, omega (arith, c .before .before .at .ensures, c .before .over-place .ensures .1))
+put-over-requires c κs = let few = c .before .before .before .before .before .before .before .before .pre .1 (c .before .before .before .before .before .if1 .left) in (search needs, few, omega (arith, c .before .before .over-count .ensures, c .before .over-place .ensures .1))
 
 same-length-2 : tie.Need-same-length-2
 same-length-2 c = search needs
 
 returns-2 : tie.Need-returns-2
-returns-2 c = let a = c .before .before .before .before .before .before .before .before .before .before .before .args in word-over (a .h) (a .table .now) _ (a .c) (a .w) _ _ (c .before .before .before .before .before .before .before .before .if1 .left) (c .before .before .before .before .before .at .ensures) (c .before .before .before .before .over-place .ensures .0) (c .before .before .put-over .ensures)
+returns-2 c = let a = c .before .before .before .before .before .before .before .before .before .before .before .args in word-over (a .h) (a .table .now) _ (a .c) (a .w) _ _ (c .before .before .before .before .before .before .before .before .if1 .left) (c .before .before .before .before .before .over-count .ensures) (c .before .before .before .before .over-place .ensures .0) (c .before .before .put-over .ensures)
 
 pub put-word-spec : {M : Type 1} → statement M
 put-word-spec =
@@ -52,7 +52,7 @@ put-word-spec =
     returns
     mul-over-place
     add-over-place
-    at-requires
+    over-count-requires
     over-place-requires
     put-over-requires
     same-length-2

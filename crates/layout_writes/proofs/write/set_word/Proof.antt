@@ -7,8 +7,8 @@ use borrow.Author.Needs.{needs}
 use Rattle.layout_writes.proofs.write.set_word.Statement.{statement}
 use Rattle.layout_writes.proofs.write.set_word.Tie as tie
 
-at-requires : tie.Need-at-requires
-at-requires c κs = search needs
+direct-requires : tie.Need-direct-requires
+direct-requires c κs = search needs
 
 mul-put : tie.Need-mul-put
 mul-put c = search needs
@@ -23,13 +23,13 @@ same-length : tie.Need-same-length
 same-length c = search needs
 
 returns : tie.Need-returns
-returns c = let a = c .before .before .before .before .before .before .before .before .args in direct-put (a .table .now) (a .c) _ (c .before .before .before .before .before .at .ensures) _ (a .w) (c .before .before .before .before .if1 .taken) (c .before .before .put .ensures)
+returns c = let a = c .before .before .before .before .before .before .before .before .args in direct-put (a .table .now) (a .c) _ (c .before .before .before .before .before .direct .ensures) _ (a .w) (c .before .before .before .before .if1 .taken) (c .before .before .put .ensures)
 
 read-requires : tie.Need-read-requires
 read-requires c κs = search needs
 
 put-word-requires : tie.Need-put-word-requires
-put-word-requires c κs = let a = c .before .before .before .before .before .before .before in over-head (a .args .table .now) (a .args .c) _ (c .before .before .before .before .at .ensures) _ (c .before .read .ensures) (c .before .before .before .if1 .left) (a .pre .1)
+put-word-requires c κs = let a = c .before .before .before .before .before .before .before in over-head (a .args .table .now) (a .args .c) _ (c .before .before .before .before .direct .ensures) _ (c .before .read .ensures) (c .before .before .before .if1 .left) (a .pre .1)
 
 same-length-2 : tie.Need-same-length-2
 same-length-2 c = search needs
@@ -41,7 +41,7 @@ pub set-word-spec : {M : Type 1} → statement M
 set-word-spec =
     tie.close
     (tie.spec
-    at-requires
+    direct-requires
     mul-put
     add-put
     put-requires
