@@ -11,3 +11,4 @@ pub mod Calls
 pub mod Answers
 pub mod Plan
 pub mod Spans
+pub mod RangeList

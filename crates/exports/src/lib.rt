@@ -3,3 +3,4 @@ pub mod change;
 pub mod number;
 pub mod partition;
 pub mod read;
+pub mod union;
