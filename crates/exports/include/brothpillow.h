@@ -41,6 +41,13 @@ bp_answer bp_set_prepared(BP_SET_MUT, int64_t id);
 /* Every chunk from 0 to the maximum's becomes dense. */
 bp_answer bp_pre_allocate(BP_SET_MUT, int64_t max);
 
+/* Union: the first set gets the second one's members. bp_merge_from only reads the second; bp_merge leaves it empty and open, with its sizes.
+ * The two don't overlap. 3 (the first one's memory, then the second's), 4, 10, 6, 7, 8, and then all eight slices are as they were. */
+#define BP_SOURCE const uint64_t *spages, size_t spages_n, const uint32_t *srows, size_t srows_n, const uint32_t *sblocks, size_t sblocks_n, const uint64_t *stable, size_t stable_n
+#define BP_SOURCE_MUT uint64_t *spages, size_t spages_n, uint32_t *srows, size_t srows_n, uint32_t *sblocks, size_t sblocks_n, uint64_t *stable, size_t stable_n
+bp_answer bp_merge_from(BP_SET_MUT, BP_SOURCE);
+bp_answer bp_merge(BP_SET_MUT, BP_SOURCE_MUT);
+
 /* Membership, and whether a member lies in min to max, both included: yes or no; the chunk id of an id, or none. */
 bp_answer bp_get(BP_SET, int64_t id);
 bp_answer bp_any_in_range(BP_SET, int64_t min, int64_t max);

@@ -3,11 +3,13 @@
 mod call;
 mod input;
 mod memory;
+mod pair;
 mod partition;
 mod say;
 mod verb;
 
 ghost use mathlib.Core.Path.{_≡_};
+ghost use Prim.Native.Nat.{_≤_};
 ghost use lib.ListN.{length};
 
 // A line on the set that these slices hold.
@@ -27,13 +29,21 @@ fn on(
     }
 }
 
-// A line, on the half of each pool that it names.
-fn answer(line: &[u8], p: &mut [u64], r: &mut [u32], b: &mut [u32], t: &mut [u64], c: &mut [i64])
-    requires { ⌜ (length (now p) ≡ 16384) × (length (now r) ≡ 8192) × (length (now b) ≡ 2048) × (length (now t) ≡ 2048) × (length (now c) ≡ 512) ⌝ }
+// A line on one set: on set k's half of each pool.
+fn on_half(
+    v: u64,
+    k: usize,
+    line: &[u8],
+    p: &mut [u64],
+    r: &mut [u32],
+    b: &mut [u32],
+    t: &mut [u64],
+    c: &mut [i64],
+)
+    requires { ⌜ (k ≤ 1) × (length (now p) ≡ 16384) × (length (now r) ≡ 8192) × (length (now b) ≡ 2048) × (length (now t) ≡ 2048) × (length (now c) ≡ 512) ⌝ }
 {
-    let k = verb::up_to(line, 1, 1);
     on(
-        verb::of(line),
+        v,
         line,
         &mut p[8192 * k..8192 * k + 8192],
         &mut r[4096 * k..4096 * k + 4096],
@@ -41,6 +51,18 @@ fn answer(line: &[u8], p: &mut [u64], r: &mut [u32], b: &mut [u32], t: &mut [u64
         &mut t[1024 * k..1024 * k + 1024],
         &mut c[256 * k..256 * k + 256],
     );
+}
+
+// A line: on both sets, or on one.
+fn answer(line: &[u8], p: &mut [u64], r: &mut [u32], b: &mut [u32], t: &mut [u64], c: &mut [i64])
+    requires { ⌜ (length (now p) ≡ 16384) × (length (now r) ≡ 8192) × (length (now b) ≡ 2048) × (length (now t) ≡ 2048) × (length (now c) ≡ 512) ⌝ }
+{
+    let v = verb::of(line);
+    let k = verb::up_to(line, 1, 1);
+    match v {
+        27..=28 => say::answer(0, pair::unite(v, k, p, r, b, t)),
+        _ => on_half(v, k, line, p, r, b, t, c),
+    }
 }
 
 // All of the input. A proved loop has to end, so turns are counted down from a number that no run uses up.

@@ -22,10 +22,12 @@ pub fn numbers(line: &[u8]) -> [u64; 6] {
     ]
 }
 
-// Whether word j is of a kind: a set, a room of at most 256 boundaries, a number, or an id.
+// Whether word j is of a kind: a set, a set that word 1 isn't, a room of at most 256 boundaries, a number, or an id.
 fn is(line: &[u8], j: u64, kind: u8) -> bool {
     match kind {
         b'k' => words::number_or(line, j, 2) < 2,
+        b'j' => (words::number_or(line, j, 2) < 2)
+            & (words::number_or(line, j, 2) != words::number_or(line, 1, 2)),
         b'r' => words::number_or(line, j, 257) < 257,
         b'n' => words::is_number(line, j),
         _ => words::is_id(line, j),
@@ -51,12 +53,12 @@ pub fn of(line: &[u8]) -> u64 {
         0,
         b"set prepare rankup open setup poke new put get empty \
         has chunk rank rankif len chunks total check dump plan \
-        part in meets slots bounded any iter",
+        part in meets slots bounded any iter from merge",
     );
     let kinds = words::word(
         b"ki ki k k knnnnnn knnn ki ki ki k \
         k ki ki ki k k k k k knr \
-        knnnrn knnnrni knnnrnii n inn kii ki",
+        knnnrn knnnrni knnnrnii n inn kii ki kj kj",
         v,
     );
     if fits(line, kinds) { v } else { u64::MAX }
