@@ -5,7 +5,7 @@ use lines::signs;
 use lines::words;
 
 // One element of 64 bits. Answers 0, or 3 past the pool.
-fn put(pool: &mut [u64], i: usize, v: u64) -> u64 {
+pub fn put(pool: &mut [u64], i: usize, v: u64) -> u64 {
     if i < pool.len() {
         pool[i] = v;
         return 0;
@@ -14,7 +14,7 @@ fn put(pool: &mut [u64], i: usize, v: u64) -> u64 {
 }
 
 // One element of 32 bits. Answers 0, or 3 past the pool or where the value is too large.
-fn put32(pool: &mut [u32], i: usize, v: u64) -> u64 {
+pub fn put32(pool: &mut [u32], i: usize, v: u64) -> u64 {
     if i < pool.len() {
         if v < 4294967296 {
             pool[i] = v as u32;

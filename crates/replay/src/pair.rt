@@ -2,25 +2,27 @@
 ghost use mathlib.Core.Path.{_≡_};
 ghost use Prim.Native.Nat.{_≤_};
 ghost use lib.ListN.{length};
+use crate::memory;
 use codes::answer::Answer;
 use exports::union;
 
-fn copy(from: &[u64], to: &mut [u64]) {
-    let mut i: usize = 0;
-    while i < to.len() {
-        if i < from.len() {
-            to[i] = from[i];
-        }
+// The elements from one on, as far as there is room in the other from one on.
+fn copy(from: &[u64], a: usize, to: &mut [u64], b: usize) {
+    let mut i = a;
+    let mut o = b;
+    while i < from.len() {
+        memory::put(to, o, from[i]);
+        o = std::num::wrapping_add_usize(o, 1);
         i += 1;
     }
 }
 
-fn copy32(from: &[u32], to: &mut [u32]) {
-    let mut i: usize = 0;
-    while i < to.len() {
-        if i < from.len() {
-            to[i] = from[i];
-        }
+fn copy32(from: &[u32], a: usize, to: &mut [u32], b: usize) {
+    let mut i = a;
+    let mut o = b;
+    while i < from.len() {
+        memory::put32(to, o, from[i] as u64);
+        o = std::num::wrapping_add_usize(o, 1);
         i += 1;
     }
 }
@@ -59,14 +61,14 @@ pub fn unite(v: u64, k: usize, p: &mut [u64], r: &mut [u32], b: &mut [u32], t: &
     let mut sr = [0u32; 4096];
     let mut sb = [0u32; 1024];
     let mut st = [0u64; 1024];
-    copy(&p[8192 * j..8192 * j + 8192], &mut sp);
-    copy32(&r[4096 * j..4096 * j + 4096], &mut sr);
-    copy32(&b[1024 * j..1024 * j + 1024], &mut sb);
-    copy(&t[1024 * j..1024 * j + 1024], &mut st);
+    copy(p, 8192 * j, &mut sp, 0);
+    copy32(r, 4096 * j, &mut sr, 0);
+    copy32(b, 1024 * j, &mut sb, 0);
+    copy(t, 1024 * j, &mut st, 0);
     let a = into(v, k, p, r, b, t, &mut sp, &mut sr, &mut sb, &mut st);
-    copy(&sp, &mut p[8192 * j..8192 * j + 8192]);
-    copy32(&sr, &mut r[4096 * j..4096 * j + 4096]);
-    copy32(&sb, &mut b[1024 * j..1024 * j + 1024]);
-    copy(&st, &mut t[1024 * j..1024 * j + 1024]);
+    copy(&sp, 0, p, 8192 * j);
+    copy32(&sr, 0, r, 4096 * j);
+    copy32(&sb, 0, b, 1024 * j);
+    copy(&st, 0, t, 1024 * j);
     a
 }
