@@ -22,7 +22,8 @@ use Rattle.document.specs.declared.answer.Perhaps.{Perhaps}
 use Rattle.document.specs.declared.plan.Planning.{Planning}
 use Rattle.numbers.specs.Budget.{slotsForBudget, fileBoundedMaxId}
 use Rattle.layout.specs.SetUp.{sizesOf}
-use Rattle.contracts.specs.Does.{Does, Answers, SetsUp}
+use Rattle.document.specs.Union as union
+use Rattle.contracts.specs.Does.{Does, Answers, SetsUp, Joins}
 use Rattle.cuts.specs.Promise.{Plans}
 use Rattle.codes.specs.Codes.{Coded, outcomeCode, truthCode, amountCode, perhapsCode, planningCode, spannedCode, ranksCode, planIn, spanIn}
 use Rattle.promises.proofs.Ensures.{four, two, Ensures}
@@ -31,6 +32,8 @@ use Rattle.exports.proofs.change.bp_set_if_new as bp_set_if_new
 use Rattle.exports.proofs.change.bp_set as bp_set
 use Rattle.exports.proofs.change.bp_set_prepared as bp_set_prepared
 use Rattle.exports.proofs.change.bp_pre_allocate as bp_pre_allocate
+use Rattle.exports.proofs.union.bp_merge_from as bp_merge_from
+use Rattle.exports.proofs.union.bp_merge as bp_merge
 use Rattle.exports.proofs.change.bp_into_ranked as bp_into_ranked
 use Rattle.exports.proofs.change.«bp_into_open» as bp_leaving
 use Rattle.exports.proofs.read.bp_get as bp_get
@@ -57,6 +60,8 @@ use Rattle.exports.proofs.change.bp_set_if_new.Symbol as bp_set_if_new-at
 use Rattle.exports.proofs.change.bp_set.Symbol as bp_set-at
 use Rattle.exports.proofs.change.bp_set_prepared.Symbol as bp_set_prepared-at
 use Rattle.exports.proofs.change.bp_pre_allocate.Symbol as bp_pre_allocate-at
+use Rattle.exports.proofs.union.bp_merge_from.Symbol as bp_merge_from-at
+use Rattle.exports.proofs.union.bp_merge.Symbol as bp_merge-at
 use Rattle.exports.proofs.change.bp_into_ranked.Symbol as bp_into_ranked-at
 use Rattle.exports.proofs.change.«bp_into_open».Symbol as bp_leaving-at
 use Rattle.exports.proofs.read.bp_get.Symbol as bp_get-at
@@ -83,6 +88,8 @@ use Rattle.exports.proofs.change.bp_set_if_new.Met as bp_set_if_new-met
 use Rattle.exports.proofs.change.bp_set.Met as bp_set-met
 use Rattle.exports.proofs.change.bp_set_prepared.Met as bp_set_prepared-met
 use Rattle.exports.proofs.change.bp_pre_allocate.Met as bp_pre_allocate-met
+use Rattle.exports.proofs.union.bp_merge_from.Met as bp_merge_from-met
+use Rattle.exports.proofs.union.bp_merge.Met as bp_merge-met
 use Rattle.exports.proofs.change.bp_into_ranked.Met as bp_into_ranked-met
 use Rattle.exports.proofs.change.«bp_into_open».Met as bp_leaving-met
 use Rattle.exports.proofs.read.bp_get.Met as bp_get-met
@@ -121,6 +128,12 @@ module _ {M : Type 1} (𝓤 : URA M) (H : Heap 𝓤) where
 
     pub bp-pre-allocate-is : bp_pre_allocate.spec 𝓤 H A m run ≡ Ensures 𝓤 H A bp_pre_allocate.ended (λ κs a r e. Coded outcomeCode (λ (t : Outcome). Does (four a) (calls.prepare (a .1 .1 .1 .1 .0)) (that t) (four e)) r)
     bp-pre-allocate-is = refl
+
+    pub bp-merge-from-is : bp_merge_from.spec 𝓤 H A m run ≡ Ensures 𝓤 H A bp_merge_from.ended (λ κs a r e. Coded outcomeCode (λ (t : Outcome). Joins (four a) (four (a .1 .1 .1 .1)) union.merge-from t (four e) (four (a .1 .1 .1 .1))) r)
+    bp-merge-from-is = refl
+
+    pub bp-merge-is : bp_merge.spec 𝓤 H A m run ≡ Ensures 𝓤 H A bp_merge.ended (λ κs a r e. Coded outcomeCode (λ (t : Outcome). Joins (four a) (four (a .1 .1 .1 .1)) union.merge t (four e) (four (e .1 .1 .1 .1))) r)
+    bp-merge-is = refl
 
     pub bp-into-ranked-is : bp_into_ranked.spec 𝓤 H A m run ≡ Ensures 𝓤 H A bp_into_ranked.ended (λ κs a r e. Coded outcomeCode (λ (t : Outcome). Does (four a) calls.rank-up (that t) (two a e)) r)
     bp-into-ranked-is = refl
@@ -205,6 +218,14 @@ module _ {M : Type 1} (𝓤 : URA M) (H : Heap 𝓤) where
     pub bp-pre-allocate-meets : Meets 𝓤 H (𝓖 .A) bp_pre_allocate.signature (𝓡 .run bp_pre_allocate-at.routine)
         (Ensures 𝓤 H (𝓖 .A) bp_pre_allocate.ended (λ κs a r e. Coded outcomeCode (λ (t : Outcome). Does (four a) (calls.prepare (a .1 .1 .1 .1 .0)) (that t) (four e)) r))
     bp-pre-allocate-meets = bp_pre_allocate-met.met 𝓤 H 𝓜 𝓖 𝓡
+
+    pub bp-merge-from-meets : Meets 𝓤 H (𝓖 .A) bp_merge_from.signature (𝓡 .run bp_merge_from-at.routine)
+        (Ensures 𝓤 H (𝓖 .A) bp_merge_from.ended (λ κs a r e. Coded outcomeCode (λ (t : Outcome). Joins (four a) (four (a .1 .1 .1 .1)) union.merge-from t (four e) (four (a .1 .1 .1 .1))) r))
+    bp-merge-from-meets = bp_merge_from-met.met 𝓤 H 𝓜 𝓖 𝓡
+
+    pub bp-merge-meets : Meets 𝓤 H (𝓖 .A) bp_merge.signature (𝓡 .run bp_merge-at.routine)
+        (Ensures 𝓤 H (𝓖 .A) bp_merge.ended (λ κs a r e. Coded outcomeCode (λ (t : Outcome). Joins (four a) (four (a .1 .1 .1 .1)) union.merge t (four e) (four (e .1 .1 .1 .1))) r))
+    bp-merge-meets = bp_merge-met.met 𝓤 H 𝓜 𝓖 𝓡
 
     pub bp-into-ranked-meets : Meets 𝓤 H (𝓖 .A) bp_into_ranked.signature (𝓡 .run bp_into_ranked-at.routine)
         (Ensures 𝓤 H (𝓖 .A) bp_into_ranked.ended (λ κs a r e. Coded outcomeCode (λ (t : Outcome). Does (four a) calls.rank-up (that t) (two a e)) r))
