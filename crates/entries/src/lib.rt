@@ -1,4 +1,6 @@
 // The entries one by one: whether they lie in the table, how many there are, the first for a chunk, and each one's chunk and part of a pool.
+pub mod clip;
+
 ghost use mathlib.Core.Path.{_≡_};
 ghost use mathlib.Core.Bool.{true};
 ghost use mathlib.Core.List.{List};

@@ -13,8 +13,8 @@ use codes::answer::Answer;
 use document::answer::Listing;
 use idset::count;
 use idset::read;
+use iteration::listing;
 use ranked::rank;
-use scan::listing;
 use scan::range;
 
 // The full check: whether memory follows the layout.

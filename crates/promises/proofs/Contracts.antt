@@ -33,7 +33,7 @@ use Rattle.ranked.proofs.form.«into_open» as leaving
 use Rattle.idset.proofs.read.get as get
 use Rattle.idset.proofs.read.chunk_of as chunk_of
 use Rattle.scan.proofs.range.«any_in_range» as ranging
-use Rattle.scan.proofs.listing.iter_from as iter_from
+use Rattle.iteration.proofs.listing.iter_from as iter_from
 use Rattle.idset.proofs.count.len as len
 use Rattle.idset.proofs.count.is_empty as is_empty
 use Rattle.idset.proofs.count.has_any as has_any
@@ -62,7 +62,7 @@ use Rattle.ranked.proofs.form.«into_open».Symbol as leaving-at
 use Rattle.idset.proofs.read.get.Symbol as get-at
 use Rattle.idset.proofs.read.chunk_of.Symbol as chunk_of-at
 use Rattle.scan.proofs.range.«any_in_range».Symbol as ranging-at
-use Rattle.scan.proofs.listing.iter_from.Symbol as iter_from-at
+use Rattle.iteration.proofs.listing.iter_from.Symbol as iter_from-at
 use Rattle.idset.proofs.count.len.Symbol as len-at
 use Rattle.idset.proofs.count.is_empty.Symbol as is_empty-at
 use Rattle.idset.proofs.count.has_any.Symbol as has_any-at
@@ -91,7 +91,7 @@ use Rattle.ranked.proofs.form.«into_open».Met as leaving-met
 use Rattle.idset.proofs.read.get.Met as get-met
 use Rattle.idset.proofs.read.chunk_of.Met as chunk_of-met
 use Rattle.scan.proofs.range.«any_in_range».Met as ranging-met
-use Rattle.scan.proofs.listing.iter_from.Met as iter_from-met
+use Rattle.iteration.proofs.listing.iter_from.Met as iter_from-met
 use Rattle.idset.proofs.count.len.Met as len-met
 use Rattle.idset.proofs.count.is_empty.Met as is_empty-met
 use Rattle.idset.proofs.count.has_any.Met as has_any-met

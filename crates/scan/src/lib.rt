@@ -1,4 +1,2 @@
-// Calls over a run of entries: the range test and iteration, in both modes. Each entry is tested as it comes.
-mod clip;
-pub mod listing;
+// The range test, in both modes: a run over the entries from the low end's chunk on. Each entry is tested as it comes.
 pub mod range;

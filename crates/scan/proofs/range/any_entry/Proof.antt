@@ -2,7 +2,7 @@
 use mathlib.Core.Path.{_∙_}
 use Rattle.layout.specs.Mem.{Mem, memOf}
 use Rattle.entries.proofs.Runs.{Run, run}
-use Rattle.scan.proofs.Clips.{shift-is, below-is}
+use Rattle.entries.proofs.Clips.{shift-is, below-is}
 use Rattle.scan.proofs.Ranges.{entry-absent, entry-is}
 use borrow.Author.Needs.{needs}
 use Rattle.scan.proofs.range.any_entry.Statement.{statement}

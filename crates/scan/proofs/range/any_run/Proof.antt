@@ -7,7 +7,7 @@ use borrow.Author.Tests.{not-true, not-false}
 use Rattle.layout.specs.Mem.{Mem, mem, memOf}
 use Rattle.calls.specs.Range.{anyRun}
 use Rattle.entries.proofs.Runs.{run}
-use Rattle.scan.proofs.Clips.{shift-is, quotient-is}
+use Rattle.entries.proofs.Clips.{shift-is, quotient-is}
 use Rattle.scan.proofs.Ranges.{run-past, run-found, run-next, run-end}
 use Rattle.scan.proofs.range.any_run.Statement.{statement}
 use Rattle.scan.proofs.range.any_run.Tie as tie

@@ -1,0 +1,4 @@
+pub mod Nexts
+pub mod Fills
+pub mod Records
+pub mod Promises
