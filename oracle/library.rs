@@ -128,6 +128,14 @@ unsafe extern "C" {
         pages: *mut u64, pages_n: usize, rows: *mut u32, rows_n: usize,
         blocks: *mut u32, blocks_n: usize, table: *mut u64, table_n: usize,
     ) -> Answer;
+    fn bp_merge_from(
+        pages: *mut u64, pages_n: usize, rows: *mut u32, rows_n: usize, blocks: *mut u32, blocks_n: usize, table: *mut u64, table_n: usize,
+        spages: *const u64, spages_n: usize, srows: *const u32, srows_n: usize, sblocks: *const u32, sblocks_n: usize, stable: *const u64, stable_n: usize,
+    ) -> Answer;
+    fn bp_merge(
+        pages: *mut u64, pages_n: usize, rows: *mut u32, rows_n: usize, blocks: *mut u32, blocks_n: usize, table: *mut u64, table_n: usize,
+        spages: *mut u64, spages_n: usize, srows: *mut u32, srows_n: usize, sblocks: *mut u32, sblocks_n: usize, stable: *mut u64, stable_n: usize,
+    ) -> Answer;
 }
 
 impl Memory {
@@ -163,6 +171,27 @@ impl Memory {
                 z.s, z.m, z.d, z.v, z.r, z.p,
                 self.pages.as_mut_ptr(), pages, self.rows.as_mut_ptr(), rows,
                 self.blocks.as_mut_ptr(), blocks, self.table.as_mut_ptr(), table,
+            )
+        }
+    }
+
+    /// Union: the other set's members come here.
+    pub fn bp_merge_from(&mut self, from: &Memory) -> Answer {
+        let ([pages, rows, blocks, table], [spages, srows, sblocks, stable]) = (self.lent(), from.lent());
+        unsafe {
+            bp_merge_from(
+                self.pages.as_mut_ptr(), pages, self.rows.as_mut_ptr(), rows, self.blocks.as_mut_ptr(), blocks, self.table.as_mut_ptr(), table,
+                from.pages.as_ptr(), spages, from.rows.as_ptr(), srows, from.blocks.as_ptr(), sblocks, from.table.as_ptr(), stable,
+            )
+        }
+    }
+
+    pub fn bp_merge(&mut self, from: &mut Memory) -> Answer {
+        let ([pages, rows, blocks, table], [spages, srows, sblocks, stable]) = (self.lent(), from.lent());
+        unsafe {
+            bp_merge(
+                self.pages.as_mut_ptr(), pages, self.rows.as_mut_ptr(), rows, self.blocks.as_mut_ptr(), blocks, self.table.as_mut_ptr(), table,
+                from.pages.as_mut_ptr(), spages, from.rows.as_mut_ptr(), srows, from.blocks.as_mut_ptr(), sblocks, from.table.as_mut_ptr(), stable,
             )
         }
     }

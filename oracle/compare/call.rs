@@ -18,6 +18,8 @@ pub enum Call {
     New(i64),
     Put(i64),
     Prepare(i64),
+    From,
+    Merge,
     Get(i64),
     Any(i64, i64),
     Len,
@@ -38,7 +40,7 @@ pub enum Call {
 }
 
 impl Call {
-    /// The line for set k. The last two speak of no set.
+    /// The line for set k, into which a union takes the other one. The last two speak of no set.
     pub fn line(&self, k: usize) -> String {
         match *self {
             Call::SetUp(z) => format!("setup {k} {} {} {} {} {} {}", z.s, z.m, z.d, z.v, z.r, z.p),
@@ -47,6 +49,8 @@ impl Call {
             Call::New(id) => format!("new {k} {id}"),
             Call::Put(id) => format!("put {k} {id}"),
             Call::Prepare(max) => format!("prepare {k} {max}"),
+            Call::From => format!("from {k} {}", 1 - k),
+            Call::Merge => format!("merge {k} {}", 1 - k),
             Call::Get(id) => format!("get {k} {id}"),
             Call::Any(min, max) => format!("any {k} {min} {max}"),
             Call::Len => format!("len {k}"),
@@ -72,9 +76,14 @@ impl Call {
         !matches!(self, Call::Part { .. } | Call::Slots(_) | Call::Bounded(..))
     }
 
+    /// Whether the call speaks of both sets.
+    pub fn is_union(&self) -> bool {
+        matches!(self, Call::From | Call::Merge)
+    }
+
     /// Whether an accepted call may change a set's memory. Planning writes boundaries alone.
     pub fn writes(&self) -> bool {
-        matches!(self, Call::SetUp(_) | Call::Set(_) | Call::New(_) | Call::Put(_) | Call::Prepare(_) | Call::RankUp | Call::Open)
+        self.is_union() || matches!(self, Call::SetUp(_) | Call::Set(_) | Call::New(_) | Call::Put(_) | Call::Prepare(_) | Call::RankUp | Call::Open)
     }
 }
 

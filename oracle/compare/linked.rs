@@ -1,17 +1,21 @@
-//! The library linked through `exports`: each call is compared at once, memory after each refusal and each plan, elements past the sizes at the end.
+//! The library linked through `exports`: each call is compared at once, memory after each refusal, each plan and each union, elements past the sizes at
+//! the end.
 use crate::call::{Call, Record, Said, Sizes};
-use crate::library::{Answer, Listing, Memory};
+use crate::library::{Answer, DONE, Listing, Memory};
 use crate::locations;
 use crate::planning;
 use crate::rust::BOUNDARIES;
 use crate::script::Way;
 
+#[derive(Clone)]
 struct Set {
     memory: Memory,
     /// Memory as the last accepted writing call left it, once it has been asked for.
     before: Memory,
     known: bool,
     bounds: Vec<i64>,
+    /// Those of the last accepted set-up.
+    sizes: Option<Sizes>,
     /// How much of each slice an accepted set-up needed, at most.
     used: [usize; 4],
 }
@@ -75,6 +79,7 @@ impl Set {
             Call::New(id) => truth(x.bp_set_if_new(id)),
             Call::Put(id) => truth(x.bp_set_prepared(id)),
             Call::Prepare(max) => ok(x.bp_pre_allocate(max)),
+            Call::From | Call::Merge => unreachable!("a union is no call on one set"),
             Call::Get(id) => truth(x.bp_get(id)),
             Call::Any(min, max) => truth(x.bp_any_in_range(min, max)),
             Call::Len => number(x.bp_len()),
@@ -119,6 +124,21 @@ impl Set {
         Said::Part { ids, ranks }
     }
 
+    /// Union with another set's memory. A refusal leaves both as they were, `merge` the source as set-up does, past its sizes too.
+    fn union(&mut self, from: &mut Set, call: &Call) -> Said {
+        self.take_down();
+        from.take_down();
+        let merges = *call == Call::Merge;
+        let said = ok(if merges { self.memory.bp_merge(&mut from.memory) } else { self.memory.bp_merge_from(&from.memory) });
+        self.known = said.refusal().is_some();
+        assert!(!self.known || self.memory == self.before, "a refused union changed its destination");
+        if let (Some(z), true) = (from.sizes, merges && !self.known) {
+            assert_eq!(from.before.bp_set_up(z), DONE);
+        }
+        assert!(from.memory == from.before, "a union left its source otherwise");
+        said
+    }
+
     /// Memory is taken down, unless nothing was written since that was done last.
     fn take_down(&mut self) {
         if !self.known {
@@ -155,24 +175,26 @@ impl Way for Linked {
 
     fn begin(&mut self) -> bool {
         let lent = self.lends(self.sizes);
-        let set = |_| Set { memory: Memory::marked(lent), before: Memory::marked([0; 4]), known: false, bounds: vec![-7; BOUNDARIES], used: [0; 4] };
-        self.sets = (0..2).map(set).collect();
+        let [memory, before] = [lent, [0; 4]].map(Memory::marked);
+        let set = Set { memory, before, known: false, bounds: vec![-7; BOUNDARIES], sizes: None, used: [0; 4] };
+        self.sets = vec![set.clone(), set];
         true
     }
 
     fn call(&mut self, k: usize, call: &Call, wanted: &Said) {
-        let set = &mut self.sets[k];
+        let [set, other] = self.sets.get_disjoint_mut([k, 1 - k]).expect("two sets");
         let stays = !call.writes() || wanted.refusal().is_some();
         // where memory is large, other reading calls are compared with the next refusal or plan
-        let compared = stays && call.of_a_set() && (self.sizes.s < 12 || wanted.refusal().is_some() || matches!(call, Call::Plan { .. }));
+        let compared = stays && call.of_a_set() && !call.is_union() && (self.sizes.s < 12 || wanted.refusal().is_some() || matches!(call, Call::Plan { .. }));
         if compared {
             set.take_down();
         }
-        let said = set.answer(call);
+        let said = if call.is_union() { set.union(other, call) } else { set.answer(call) };
         assert!(said == *wanted, "{}\nwanted {wanted}\nsaid   {said}\n({wanted:?}, {said:?})", call.line(k));
         assert!(!compared || set.before == set.memory, "{}: memory is not as it was", call.line(k));
         set.known &= stays;
-        if let (Call::SetUp(z), Said::Ok) = (call, &said) {
+        if let (&Call::SetUp(z), Said::Ok) = (call, &said) {
+            set.sizes = Some(z);
             for (used, needs) in set.used.iter_mut().zip(z.needs()) {
                 *used = needs.max(*used);
             }

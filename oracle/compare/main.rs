@@ -2,6 +2,7 @@
 //! `linked SEQUENCES LENGTH`, `held SEQUENCES LENGTH` (linked, and every set-up with these sizes), `piped SEQUENCES LENGTH PROGRAM..`,
 //! `listed SEQUENCES LENGTH CALLS ANSWERS` (writes the answers down),
 //! or `linked-all DEPTH`, `piped-all DEPTH PROGRAM..`: every sequence of so many calls.
+mod all;
 mod call;
 #[allow(dead_code, clippy::all)]
 mod coord_pack;
@@ -18,8 +19,10 @@ mod room;
 mod rust;
 mod script;
 mod tally;
+mod unions;
+mod uniting;
 
-use call::{Call, Sizes};
+use call::Sizes;
 use script::{Script, Way};
 
 /// Stand-ins for what the Rust's files lean on.
@@ -40,27 +43,6 @@ impl Error {
 }
 pub type Result<T> = std::result::Result<T, Error>;
 
-/// All short sequences: from nothing, with a chunk one short of dense, with two full rows, with a dense chunk.
-fn all_short(script: &mut Script, z: Sizes, depth: u32) {
-    let chunk = 1i64 << z.s;
-    let first = |c: i64, n: i64| (0..n).map(move |o| Call::New(c * chunk + o));
-    let m = z.m as i64;
-    let starts: [Vec<Call>; 4] = [
-        Vec::new(),
-        first(0, m).collect(),
-        first(0, m).chain(first(1, m)).collect(),
-        first(0, m + 1).chain(first(1, 1)).collect(),
-    ];
-    let new = [-1, 0, m, chunk, chunk + m, 2 * chunk, i64::MAX].map(Call::New);
-    let put = [-1, m, chunk].map(Call::Put);
-    let prepare = [-1, chunk - 1, chunk, 3 * chunk].map(Call::Prepare);
-    let choices = [&new[..], &put, &prepare, &[Call::Set(1), Call::RankUp, Call::Open]].concat();
-    let ids = [i64::MIN, -1, 0, 1, m, chunk - 1, chunk, chunk + m, 2 * chunk, 2 * chunk + 1, i64::MAX];
-    for start in starts {
-        script.all_sequences(&start, &choices, depth, &ids);
-    }
-}
-
 fn main() {
     let words: Vec<String> = std::env::args().skip(1).collect();
     let number = |i: usize| words[i].parse::<u64>().expect("a number");
@@ -75,7 +57,8 @@ fn main() {
     };
     let mut script = Script::new(&mut *reached, z, way == "held", seed);
     if way.ends_with("-all") {
-        all_short(&mut script, z, number(8) as u32);
+        all::one_set(&mut script, z, number(8) as u32);
+        all::two_sets(&mut script, z, number(8) as u32);
     } else {
         (0..number(8)).for_each(|_| script.random_sequence(number(9)));
     }

@@ -26,6 +26,8 @@ pub struct Piped {
     wanted: Vec<Wanted>,
     /// Whether nothing was written to the set since its last dump.
     known: [bool; 2],
+    /// Those of each set's last accepted set-up.
+    sizes: [Option<Sizes>; 2],
 }
 
 /// A dump without its first boundaries: elements are words such as t0=9, those of boundaries begin with c.
@@ -37,12 +39,40 @@ fn without(dump: &str, boundaries: usize) -> String {
 impl Piped {
     /// `program` is the command that runs it, word by word.
     pub fn new(program: Vec<String>) -> Piped {
-        Piped { program, lines: Vec::new(), wanted: Vec::new(), known: [false; 2] }
+        Piped { program, lines: Vec::new(), wanted: Vec::new(), known: [false; 2], sizes: [None; 2] }
     }
 
     fn push(&mut self, line: String, wanted: Wanted) {
         self.lines.push(line);
         self.wanted.push(wanted);
+    }
+
+    /// A dump that the next one is held against, unless the last one is.
+    fn take_down(&mut self, k: usize) {
+        if !self.known[k] {
+            self.push(format!("dump {k}"), Wanted::Dump(k));
+            self.known[k] = true;
+        }
+    }
+
+    fn stays(&mut self, k: usize, but: usize) {
+        self.push(format!("dump {k}"), Wanted::Same(k, but));
+    }
+
+    /// A refusal leaves both sets, an accepted `from` the source; after `merge` a set-up with the source's sizes changes nothing.
+    fn union(&mut self, k: usize, call: &Call, wanted: &Said) {
+        (0..2).for_each(|k| self.take_down(k));
+        self.push(call.line(k), Wanted::Answer(wanted.to_string()));
+        let refused = wanted.refusal().is_some();
+        self.known[k] = refused;
+        if refused {
+            self.stays(k, 0);
+        }
+        if let (Some(z), true) = (self.sizes[1 - k], *call == Call::Merge && !refused) {
+            self.push(format!("dump {}", 1 - k), Wanted::Dump(1 - k));
+            self.push(Call::SetUp(z).line(1 - k), Wanted::Answer(Said::Ok.to_string()));
+        }
+        self.stays(1 - k, 0);
     }
 
     fn start(&self) -> Child {
@@ -63,6 +93,7 @@ impl Piped {
         self.lines.clear();
         self.wanted.clear();
         self.known = [false; 2];
+        self.sizes = [None; 2];
     }
 
     fn read(&self, from: BufReader<ChildStdout>) {
@@ -74,7 +105,7 @@ impl Piped {
                 Wanted::Answer(wanted) => assert!(said == *wanted, "line {i}: {line}\nwanted {wanted}\nsaid   {said}"),
                 &Wanted::Dump(k) => dumped[k] = said,
                 &Wanted::Same(k, but) => {
-                    assert!(without(&dumped[k], but) == without(&said, but), "line {}: {} changed memory", i - 1, self.lines[i - 1]);
+                    assert!(without(&dumped[k], but) == without(&said, but), "line {i}: set {k} changed, after {:?}", &self.lines[i.saturating_sub(4)..i]);
                     dumped[k] = said;
                 }
             }
@@ -94,19 +125,25 @@ impl Way for Piped {
     }
 
     fn call(&mut self, k: usize, call: &Call, wanted: &Said) {
+        if call.is_union() {
+            return self.union(k, call, wanted);
+        }
+        if let (&Call::SetUp(z), Said::Ok) = (call, wanted) {
+            self.sizes[k] = Some(z);
+        }
         let refused = wanted.refusal().is_some();
         let stays = match wanted {
             Said::Planned(_, bounds) => Some(bounds.len()),
             _ => (refused && (call.writes() || matches!(call, Call::Plan { .. }))).then_some(0),
         };
-        if stays.is_some() && !self.known[k] {
-            self.push(format!("dump {k}"), Wanted::Dump(k));
+        if stays.is_some() {
+            self.take_down(k);
         }
         self.push(call.line(k), Wanted::Answer(wanted.to_string()));
         if let Some(boundaries) = stays {
-            self.push(format!("dump {k}"), Wanted::Same(k, boundaries));
+            self.stays(k, boundaries);
         }
-        self.known[k] = stays.is_some() || (self.known[k] && (refused || !call.writes()));
+        self.known[k] &= refused || !call.writes();
     }
 
     fn end(&mut self) {

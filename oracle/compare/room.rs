@@ -1,14 +1,15 @@
 //! Which of the refusals 6, 7 and 8 document 01 gives, from its words alone: kinds by chunk id, counted on the state after the call.
 use crate::call::Sizes;
 use crate::tally::Tally;
+use crate::unions::Kind;
 use std::collections::{BTreeMap, BTreeSet};
 
 #[derive(Default)]
-struct Chunk {
-    dense: bool,
+pub struct Chunk {
+    pub dense: bool,
     /// Of a sparse chunk: its row, the lowest that was free.
     row: u64,
-    offsets: BTreeSet<u64>,
+    pub offsets: BTreeSet<u64>,
 }
 
 pub struct Room {
@@ -122,5 +123,45 @@ impl Room {
         self.verdict(n)?;
         (0..=last).for_each(|c| _ = self.dense_chunk(c, tally));
         Ok(())
+    }
+
+    /// The same sizes, and nothing else.
+    pub fn emptied(&self) -> Room {
+        Room::new(self.sizes)
+    }
+
+    /// Whether a chunk of another set is dense once it is taken in.
+    fn joins_dense(&self, c: u64, there: &Chunk) -> bool {
+        let together = |here: &Chunk| here.dense || there.dense || here.offsets.union(&there.offsets).count() as u64 > self.sizes.m;
+        self.chunks.get(&c).map_or(there.dense, together)
+    }
+
+    /// Takes another set's chunks in, or says the refusal: first those that are dense then, in rising order, then the sparse ones.
+    pub fn union(&mut self, from: &Room, tally: &mut Tally) -> Result<(), u64> {
+        if (self.sizes.s, self.sizes.m) != (from.sizes.s, from.sizes.m) {
+            return Err(10);
+        }
+        let (dense, sparse): (Vec<_>, Vec<_>) = from.chunks.iter().partition(|(c, there)| self.joins_dense(**c, there));
+        let mut n = self.others(|c| !from.chunks.contains_key(&c));
+        n.over += from.chunks.keys().filter(|&&c| c >= self.sizes.d).count() as u64;
+        n.dense += dense.len() as u64;
+        n.sparse += sparse.len() as u64;
+        self.verdict(n)?;
+        self.tell(from, &sparse, tally);
+        dense.into_iter().for_each(|(&c, there)| self.dense_chunk(c, tally).offsets.extend(&there.offsets));
+        sparse.into_iter().for_each(|(&c, there)| self.sparse_chunk(c, tally).offsets.extend(&there.offsets));
+        Ok(())
+    }
+
+    /// What comes up in a union that is accepted, and some chunks of which are sparse then.
+    fn tell(&self, from: &Room, sparse: &[(&u64, &Chunk)], tally: &mut Tally) {
+        let u = &mut tally.unions;
+        for (c, there) in &from.chunks {
+            u.chunk(self.sizes.m, self.chunks.get(c), there);
+            u.count(Kind::DirectHere, (from.sizes.d..self.sizes.d).contains(c));
+            u.count(Kind::DirectThere, (self.sizes.d..from.sizes.d).contains(c));
+        }
+        let new = sparse.iter().filter(|(c, _)| !self.chunks.contains_key(c)).count() as u64;
+        u.count(Kind::NeedsFreed, self.others(|_| true).sparse + new > self.sizes.r);
     }
 }

@@ -4,6 +4,8 @@ use crate::idset::{IdSet, RankedIdSet};
 use crate::locations;
 use crate::room::Room;
 use crate::tally::Tally;
+use crate::unions::Kind;
+use std::mem;
 
 pub const BOUNDARIES: usize = 256;
 
@@ -46,14 +48,15 @@ impl Side {
         self.planned.as_ref().map(|p| p.0)
     }
 
-    /// The answer, and this side changed as the call changes it.
-    pub fn answer(&mut self, call: &Call, tally: &mut Tally) -> Said {
+    /// The answer, and this side changed as the call changes it; a union has the other side for its source.
+    pub fn answer(&mut self, call: &Call, other: &mut Side, tally: &mut Tally) -> Said {
         match *call {
             Call::SetUp(z) => self.set_up(z),
             Call::Check => Said::Yes(self.room.is_some()),
             Call::Part { record, room, k } => self.part(record, room, k, tally),
             Call::Slots(b) => Said::Number(locations::slots_for_budget(b)),
             Call::Bounded(claim, length, per) => Said::Signed(IdSet::file_bounded_max_id(claim, length, per)),
+            Call::From | Call::Merge => self.union(other, *call == Call::Merge, tally),
             _ if self.room.is_none() => Said::Refused(3),
             Call::Get(id) => Said::Truth(self.get(id)),
             Call::Any(min, max) => Said::Truth(self.any(min, max, tally)),
@@ -130,6 +133,32 @@ impl Side {
                 Said::Ok
             }
         }
+    }
+
+    fn union(&mut self, from: &mut Side, merges: bool, tally: &mut Tally) -> Said {
+        let verdict = self.takes_in(from, merges, tally);
+        match verdict {
+            Err(c) => tally.unions.refused(c),
+            Ok(()) if merges => self.set.merge(mem::replace(&mut from.set, IdSet::new())),
+            Ok(()) => self.set.merge_from(&from.set),
+        }
+        done(verdict)
+    }
+
+    /// Which refusal is due, else the rooms after it: a set that was merged is empty and has its sizes.
+    fn takes_in(&mut self, from: &mut Side, merges: bool, tally: &mut Tally) -> Result<(), u64> {
+        let (Some(room), Some(other)) = (&mut self.room, &mut from.room) else { return Err(3) };
+        if self.ranked.is_some() || merges && from.ranked.is_some() {
+            tally.unions.count(Kind::SourceRanked, self.ranked.is_none());
+            return Err(4);
+        }
+        room.union(other, tally)?;
+        tally.unions.count(Kind::FromRanked, from.ranked.is_some());
+        if merges {
+            tally.unions.count(Kind::Emptied, from.set.has_any());
+            *other = other.emptied();
+        }
+        Ok(())
     }
 
     /// All four atomic inserts: one of the two that answer, then the two that don't ask whether it is new.

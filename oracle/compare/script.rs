@@ -33,16 +33,16 @@ impl Random {
         self.next() % n
     }
 
-    fn one_in(&mut self, n: u64) -> bool {
+    pub fn one_in(&mut self, n: u64) -> bool {
         self.below(n) == 0
     }
 
-    fn one_of<T: Copy>(&mut self, some: &[T]) -> T {
+    pub fn one_of<T: Copy>(&mut self, some: &[T]) -> T {
         some[self.below(some.len() as u64) as usize]
     }
 
     /// Ids around every edge: negatives, chunk ends, the ends of i64, the last direct chunk, and members close together.
-    fn id(&mut self, z: Sizes, spread: u64) -> i64 {
+    pub fn id(&mut self, z: Sizes, spread: u64) -> i64 {
         let chunk = 1u64 << z.s;
         let at = match self.below(24) {
             0 => return -(self.below(5) as i64) - 1,
@@ -82,7 +82,7 @@ pub struct Script<'a> {
     pub way: &'a mut dyn Way,
     pub random: Random,
     pub tally: Tally,
-    sizes: Sizes,
+    pub sizes: Sizes,
     /// Sizes are held: every set-up is one with those asked for.
     held: bool,
     /// Where the last bursts began: with a direct entry, with an overflow entry.
@@ -96,7 +96,7 @@ impl<'a> Script<'a> {
         Script { way, random: Random::new(seed), tally: Tally::default(), sizes, held, near: [0; 2], sides: [Side::new(lent), Side::new(lent)] }
     }
 
-    fn begin(&mut self) -> bool {
+    pub fn begin(&mut self) -> bool {
         let fresh = self.way.begin();
         if fresh {
             let lent = self.way.lends(self.sizes);
@@ -106,8 +106,9 @@ impl<'a> Script<'a> {
         fresh
     }
 
-    fn say(&mut self, k: usize, call: Call) -> Said {
-        let wanted = self.sides[k].answer(&call, &mut self.tally);
+    pub fn say(&mut self, k: usize, call: Call) -> Said {
+        let [side, other] = self.sides.get_disjoint_mut([k, 1 - k]).expect("two sides");
+        let wanted = side.answer(&call, other, &mut self.tally);
         self.way.call(k, &call, &wanted);
         self.tally.calls += 1;
         if let Some(c) = wanted.refusal() {
@@ -116,7 +117,7 @@ impl<'a> Script<'a> {
         wanted
     }
 
-    fn set_up(&mut self, k: usize) {
+    pub fn set_up(&mut self, k: usize) {
         loop {
             let z = if self.held { self.sizes } else { self.random.sizes(self.sizes) };
             if self.say(k, Call::SetUp(z)) == Said::Ok {
@@ -284,6 +285,7 @@ impl<'a> Script<'a> {
     /// A random sequence of about so many calls: mostly on set 0, with set 1 between.
     pub fn random_sequence(&mut self, length: u64) {
         if self.begin() {
+            self.unite(0);
             for call in [Call::Check, Call::New(0), Call::Put(0), Call::Prepare(0), Call::RankUp, Call::Open, Call::Rank(0), Call::RankIf(0), Call::Total] {
                 self.say(0, call);
             }
@@ -294,6 +296,8 @@ impl<'a> Script<'a> {
         }
         let spread = ((1 << self.sizes.s) * (1 + self.random.below(6)) / (1 + self.random.below(40))).max(1);
         self.set_up(0);
+        self.say(0, Call::From);
+        self.say(1, Call::Merge);
         self.set_up(1);
         if self.held {
             // one promotion of each sort, whatever comes then
@@ -308,12 +312,17 @@ impl<'a> Script<'a> {
                 1 if !self.held => self.set_up(k),
                 2 => _ = self.say(k, Call::Check),
                 3..=5 => self.iterate(k, id),
+                6..=13 => self.unite(k),
                 _ if self.sides[k].is_ranked() => self.ask(k, id),
                 _ => self.grow(k, id),
             }
         }
         for k in 0..2 {
             self.close(k, spread);
+        }
+        if self.random.one_in(4) {
+            let k = self.random.below(2) as usize;
+            self.other_shape(k);
         }
         self.way.end();
     }
@@ -330,58 +339,5 @@ impl<'a> Script<'a> {
         self.plan(k);
         self.say(k, Call::Open);
         self.say(k, Call::Len);
-    }
-
-    /// Every sequence of so many calls out of `choices` after the calls of `start`; after each everything is asked about `ids`.
-    pub fn all_sequences(&mut self, start: &[Call], choices: &[Call], depth: u32, ids: &[i64]) {
-        for n in 0..(choices.len() as u64).pow(depth) {
-            self.begin();
-            self.say(0, Call::SetUp(self.sizes));
-            for &call in start {
-                self.say(0, call);
-            }
-            let mut rest = n;
-            for _ in 0..depth {
-                self.say(0, choices[(rest % choices.len() as u64) as usize]);
-                rest /= choices.len() as u64;
-            }
-            self.ask_all(ids);
-            self.way.end();
-        }
-    }
-
-    /// Ranges of one id, and from each of these ids, which rise, to the next one and back; records from some.
-    fn ask_ranges(&mut self, ids: &[i64]) {
-        for pair in ids.windows(2) {
-            self.say(0, Call::Any(pair[0], pair[0]));
-            self.say(0, Call::Any(pair[0], pair[1]));
-            self.say(0, Call::Any(pair[1], pair[0]));
-        }
-        ids.iter().step_by(3).for_each(|&id| _ = self.say(0, Call::Iter(id)));
-    }
-
-    /// Everything about these ids, in the form that the set has, then ranked, then open again.
-    fn ask_all(&mut self, ids: &[i64]) {
-        for call in [Call::Check, Call::Len, Call::Empty, Call::Has, Call::Chunks] {
-            self.say(0, call);
-        }
-        ids.iter().for_each(|&id| _ = self.say(0, Call::Get(id)));
-        self.ask_ranges(ids);
-        self.say(0, Call::RankUp);
-        self.say(0, Call::Check);
-        self.ask_ranges(ids);
-        for &id in ids {
-            self.say(0, Call::Rank(id));
-            self.say(0, Call::RankIf(id));
-        }
-        for slots in 0..4 {
-            for room in [0, 1, 3, BOUNDARIES as u64] {
-                if let Said::Planned(record, _) = self.say(0, Call::Plan { slots, room }) {
-                    (0..=record.partitions).for_each(|k| _ = self.say(0, Call::Part { record, room, k }));
-                }
-            }
-        }
-        self.say(0, Call::Open);
-        self.say(0, Call::Check);
     }
 }

@@ -1,4 +1,5 @@
 //! What has been compared: sequences, calls, and how often each kind of thing came up. A kind that never does is a failure of oracle/compare/run.
+use crate::unions::Unions;
 use std::fmt;
 
 #[derive(Default)]
@@ -23,14 +24,12 @@ pub struct Tally {
     pub over_empty: u64,
     /// Partitions whose `ids` refuses, boundaries being too few, and whose `ranks` answers.
     pub ranks_alone: u64,
+    pub unions: Unions,
 }
 
 impl Tally {
-    /// 10 waits for the union.
-    const REFUSALS: [usize; 11] = [1, 2, 3, 4, 5, 6, 7, 8, 9, 11, 12];
-
     fn kinds(&self) -> Vec<(String, u64)> {
-        let refusals = Self::REFUSALS.iter().map(|&c| (format!("refused {c}"), self.refusals[c]));
+        let refusals = (1..).zip(&self.refusals[1..]).map(|(c, &n): (u64, _)| (format!("refused {c}"), n));
         let [direct, overflow] = self.promotions;
         let [miss, hit] = self.ranges;
         let [left_63, left_64, left_65] = self.left;
@@ -49,7 +48,7 @@ impl Tally {
             ("records with 65 left", left_65),
             ("records over an empty dense chunk", self.over_empty),
         ];
-        refusals.chain(others.map(|(name, n)| (name.to_string(), n))).collect()
+        refusals.chain(others.map(|(name, n)| (name.to_string(), n))).chain(self.unions.kinds()).collect()
     }
 }
 
