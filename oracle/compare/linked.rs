@@ -124,18 +124,14 @@ impl Set {
         Said::Part { ids, ranks }
     }
 
-    /// Union with another set's memory. A refusal leaves both as they were, `merge` the source as set-up does, past its sizes too.
+    /// Union with another set. `merge` is to leave its source as set-up leaves what was there.
     fn union(&mut self, from: &mut Set, call: &Call) -> Said {
-        self.take_down();
         from.take_down();
         let merges = *call == Call::Merge;
         let said = ok(if merges { self.memory.bp_merge(&mut from.memory) } else { self.memory.bp_merge_from(&from.memory) });
-        self.known = said.refusal().is_some();
-        assert!(!self.known || self.memory == self.before, "a refused union changed its destination");
-        if let (Some(z), true) = (from.sizes, merges && !self.known) {
+        if let (Some(z), Said::Ok, true) = (from.sizes, &said, merges) {
             assert_eq!(from.before.bp_set_up(z), DONE);
         }
-        assert!(from.memory == from.before, "a union left its source otherwise");
         said
     }
 
@@ -185,13 +181,14 @@ impl Way for Linked {
         let [set, other] = self.sets.get_disjoint_mut([k, 1 - k]).expect("two sets");
         let stays = !call.writes() || wanted.refusal().is_some();
         // where memory is large, other reading calls are compared with the next refusal or plan
-        let compared = stays && call.of_a_set() && !call.is_union() && (self.sizes.s < 12 || wanted.refusal().is_some() || matches!(call, Call::Plan { .. }));
+        let compared = stays && call.of_a_set() && (self.sizes.s < 12 || wanted.refusal().is_some() || matches!(call, Call::Plan { .. }));
         if compared {
             set.take_down();
         }
         let said = if call.is_union() { set.union(other, call) } else { set.answer(call) };
         assert!(said == *wanted, "{}\nwanted {wanted}\nsaid   {said}\n({wanted:?}, {said:?})", call.line(k));
         assert!(!compared || set.before == set.memory, "{}: memory is not as it was", call.line(k));
+        assert!(!call.is_union() || other.before == other.memory, "{}: its source is not as it has to be", call.line(k));
         set.known &= stays;
         if let (&Call::SetUp(z), Said::Ok) = (call, &said) {
             set.sizes = Some(z);

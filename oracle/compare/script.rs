@@ -282,22 +282,30 @@ impl<'a> Script<'a> {
         self.say(0, Call::Bounded(claim, length, per));
     }
 
+    /// Calls on memory in which there are no sets yet.
+    fn not_set_up(&mut self) {
+        for call in [Call::Check, Call::New(0), Call::Put(0), Call::Prepare(0), Call::RankUp, Call::Open, Call::Rank(0), Call::RankIf(0), Call::Total] {
+            self.say(0, call);
+        }
+        self.say(1, Call::Plan { slots: 1, room: 1 });
+        (0..9).for_each(|id| _ = self.read(1, id));
+        self.say(1, Call::Any(0, 0));
+        self.say(1, Call::Iter(0));
+        self.say(1, Call::From);
+    }
+
     /// A random sequence of about so many calls: mostly on set 0, with set 1 between.
     pub fn random_sequence(&mut self, length: u64) {
-        if self.begin() {
-            self.unite(0);
-            for call in [Call::Check, Call::New(0), Call::Put(0), Call::Prepare(0), Call::RankUp, Call::Open, Call::Rank(0), Call::RankIf(0), Call::Total] {
-                self.say(0, call);
-            }
-            self.say(1, Call::Plan { slots: 1, room: 1 });
-            (0..9).for_each(|id| _ = self.read(1, id));
-            self.say(1, Call::Any(0, 0));
-            self.say(1, Call::Iter(0));
+        let fresh = self.begin();
+        if fresh {
+            self.not_set_up();
         }
         let spread = ((1 << self.sizes.s) * (1 + self.random.below(6)) / (1 + self.random.below(40))).max(1);
         self.set_up(0);
-        self.say(0, Call::From);
-        self.say(1, Call::Merge);
+        if fresh {
+            self.say(0, Call::From);
+            self.say(1, Call::Merge);
+        }
         self.set_up(1);
         if self.held {
             // one promotion of each sort, whatever comes then
