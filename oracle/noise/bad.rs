@@ -72,7 +72,7 @@ fn row(x: &Memory, m: u64, r: u64, n: u64) -> Option<&[u32]> {
     x.rows[..x.lent()[1]].get(from as usize..from.checked_add(n)? as usize)
 }
 
-fn page(x: &Memory, s: u64, p: u64) -> Option<&[u64]> {
+pub fn page(x: &Memory, s: u64, p: u64) -> Option<&[u64]> {
     let (from, wide) = (p.checked_mul(1 << (s - 6))?, 1 << (s - 6));
     x.pages[..x.lent()[0]].get(from as usize..from.checked_add(wide)? as usize)
 }

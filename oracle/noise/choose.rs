@@ -56,6 +56,18 @@ fn sizes(g: &mut Random, z: Sizes) -> Sizes {
     z
 }
 
+/// Sizes for the other set of a union: other capacities, now and then another s or m. Where a page is large there is none.
+pub fn beside(g: &mut Random, z: Sizes) -> Sizes {
+    let (mut s, mut m) = (z.s, z.m);
+    match g.below(24) {
+        0 => s = g.pick(&[z.s - 1, z.s + 1]).clamp(9, 25),
+        1 => m = g.pick(&[z.m - 1, z.m + 1]).clamp(1, 1024),
+        _ => (),
+    }
+    let p = if s > 12 { 0 } else { g.below(z.p + 3) };
+    Sizes { s, m, d: g.below(z.d + 3), v: g.below(z.v + 3), r: g.below(z.r + 3), p }
+}
+
 pub fn every_call(g: &mut Random, x: &Memory, z: Sizes) -> Vec<Call> {
     let mut all = Call::ALONE.to_vec();
     for _ in 0..4 {

@@ -1,6 +1,6 @@
 //! Calls on memory that no call made: made sets with words poked into them, and pure noise. The check is compared with a second one, every call
 //! answers what document 01 lets it, a refusal and a reading call leave all as it was, and where memory follows the layout answer and memory after
-//! are the plain set's; where it doesn't, the answer falls under a row of docs/EXCEPTIONS.md, and every row comes up.
+//! are the plain set's; where it doesn't, the answer falls under a row of docs/EXCEPTIONS.md, and every row comes up. Unions are made of two such memories.
 //! Arguments: how many times the usual number of rounds, the seed, and for one round alone its sizes' place and its number.
 mod bad;
 mod call;
@@ -16,6 +16,7 @@ mod records;
 mod rows;
 mod second;
 mod smallest;
+mod unions;
 
 use bad::Bad;
 use call::{Call, Record, Said};
@@ -78,6 +79,7 @@ struct Run {
     goes_on: [u64; 3],
     /// Answers under each row of docs/EXCEPTIONS.md.
     rows: [u64; NAMES.len()],
+    unions: unions::Tally,
 }
 
 impl Run {
@@ -255,15 +257,21 @@ impl Run {
         self.rounds += 1;
         self.partitions(g);
         self.from = From::Made;
-        let made = self.made(g, z, most);
+        let (made, beside) = (self.made(g, z, most), choose::beside(g, z));
+        let other = self.made(g, beside, most);
         self.every_call(g, made.clone(), z);
+        self.pair(g, &made, &other);
         for _ in 0..POKES {
             self.from = From::Poked;
-            let mut x = made.clone();
+            let [mut x, mut y] = [&made, &other].map(Memory::clone);
             poke::poke(g, &mut x, z);
+            poke::poke(g, &mut y, beside);
+            self.pairs(g, [&made, &other], [&x, &y]);
             self.every_call(g, x, z);
             self.from = From::Noise;
             let noise = poke::noise(g);
+            let [a, b] = g.pick(&[[&made, &noise], [&noise, &other], [&noise, &noise]]);
+            self.pair(g, a, b);
             self.every_call(g, noise, z);
         }
     }
@@ -271,12 +279,13 @@ impl Run {
     fn tell(&self) {
         let ([made, poked, noise], [_, poked_no, noise_no]) = (self.yes, self.no);
         println!(
-            "noise: {} rounds, {} calls, {} changes, refusals 1 to 12 but 10 {:?}; both checks: {made} made sets yes, poked {poked} yes {poked_no} no, \
+            "noise: {} rounds, {} calls, {} changes, refusals 1 to 12 {:?}; both checks: {made} made sets yes, poked {poked} yes {poked_no} no, \
              noise {noise} yes {noise_no} no; rules 1 to 16 broken alone {:?}; records that go on {:?}",
-            self.rounds, self.calls, self.changes, [1, 2, 3, 4, 5, 6, 7, 8, 9, 11, 12].map(|no: usize| self.refusals[no]), &self.alone[1..], self.goes_on
+            self.rounds, self.calls, self.changes, &self.refusals[1..], &self.alone[1..], self.goes_on
         );
         let rows: Vec<String> = NAMES.iter().zip(self.rows).map(|(name, n)| format!("{name} {n}")).collect();
         println!("noise: answers by the rows of docs/EXCEPTIONS.md: {}", rows.join(", "));
+        println!("noise: unions {}", self.unions);
     }
 
     /// The ends of the table of sizes, which no small memory shows.
@@ -284,6 +293,7 @@ impl Run {
         self.from = From::Poked;
         for (z, x) in poke::at_limits() {
             self.place = format!("seed {seed}, limits {z:?}");
+            self.pair(&mut Random::new(&[seed]), &x, &x);
             self.every_call(&mut Random::new(&[seed]), x, z);
         }
     }
@@ -312,7 +322,8 @@ fn main() {
     run.tell();
     if a.len() < 4 {
         assert!(run.alone[1..].iter().all(|&n| n > 0), "a rule was never broken alone");
-        assert!((1..=12).all(|no| no == 10 || run.refusals[no] > 0), "a refusal never came up");
+        assert!(run.refusals[1..].iter().all(|&n| n > 0), "a refusal never came up");
+        assert!(run.unions.all_came_up(), "a kind of union never came up");
         assert!(run.goes_on.iter().all(|&n| n > 0), "a record that goes on never came up");
         assert!(run.rows.iter().all(|&n| n > 0), "a row of docs/EXCEPTIONS.md never came up");
     }

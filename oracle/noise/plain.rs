@@ -3,7 +3,7 @@
 use crate::call::{Call, Record, Said, listed};
 use crate::library::{Answer, DONE, NONE, Sizes, value};
 use crate::second::sizes_allowed;
-use std::collections::BTreeMap;
+use std::collections::{BTreeMap, BTreeSet};
 
 #[derive(Clone, PartialEq, Debug)]
 pub struct Chunk {
@@ -210,6 +210,60 @@ impl Plain {
         (0..=last).for_each(|c| self.make_dense(c));
         Ok(())
     }
+}
+
+/// Union. What rows hold is taken as it stands, so that it says what comes of rows in no order too.
+impl Plain {
+    /// Takes the other set's chunks in: first those that are dense then, in rising order, then the sparse ones.
+    pub fn union(&mut self, from: &Plain, merges: bool) -> Told<()> {
+        self.in_mode(false, 4)?;
+        if merges {
+            from.in_mode(false, 4)?;
+        }
+        if (self.sizes.s, self.sizes.m) != (from.sizes.s, from.sizes.m) {
+            return Err(10);
+        }
+        let mut after = self.clone();
+        for dense in [true, false] {
+            let joined = from.chunks.iter().map(|(&c, there)| (c, self.joined(c, there)));
+            joined.filter(|(_, k)| k.dense == dense).for_each(|(c, k)| after.take(c, k));
+        }
+        self.room(after.count(|c, _| c >= self.sizes.d), after.count(|_, k| !k.dense), after.count(|_, k| k.dense))?;
+        *self = after;
+        Ok(())
+    }
+
+    /// A chunk of the union, but for its slot.
+    fn joined(&self, c: u64, there: &Chunk) -> Chunk {
+        let Some(here) = self.chunks.get(&c) else { return there.clone() };
+        let both = merged(&here.offsets, &there.offsets);
+        if !here.dense && !there.dense && both.len() as u64 <= self.sizes.m {
+            return Chunk { offsets: both, ..*here };
+        }
+        let bits: BTreeSet<u32> = both.into_iter().map(|o| o % (1 << self.sizes.s)).collect();
+        Chunk { dense: true, slot: 0, offsets: bits.into_iter().collect() }
+    }
+
+    /// The chunk in the slot that it has, or in the lowest free one.
+    fn take(&mut self, c: u64, k: Chunk) {
+        if k.dense {
+            self.make_dense(c);
+        } else if !self.chunks.contains_key(&c) {
+            let slot = self.lowest_free(false);
+            self.chunks.insert(c, Chunk { slot, ..k.clone() });
+        }
+        self.chunks.get_mut(&c).expect("a chunk").offsets = k.offsets;
+    }
+}
+
+/// The lesser head goes on, of two equal ones one; once a list is used up, the rest of the other as it stands.
+fn merged(mut a: &[u32], mut b: &[u32]) -> Vec<u32> {
+    let mut both = vec![];
+    while let (Some(x), Some(y)) = (a.first(), b.first()) {
+        both.push(*x.min(y));
+        (a, b) = (&a[usize::from(x <= y)..], &b[usize::from(y <= x)..]);
+    }
+    [&both, a, b].concat()
 }
 
 /// Which refusal set-up gives, on any memory of these lengths.

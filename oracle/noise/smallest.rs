@@ -5,6 +5,7 @@ use crate::call::{Call, Call::*, Said, listed};
 use crate::library::{Answer, DONE, Memory, NONE, Sizes};
 use crate::rows::{NAMES, Row};
 use crate::second;
+use crate::unions::{Join, Pair};
 
 #[derive(Clone, Copy)]
 enum Poke {
@@ -113,6 +114,38 @@ const CASES: [Case; 38] = [
     ("", [9, 1, 1, 0, 0, 0], &[], &[Table(16, 2), Rows(0, 5)], &[Of(Get(5), BAD)]),
 ];
 
+/// A set of a union: s m D V R P, calls that make it, pokes.
+type Half = ([u64; 6], &'static [Call], &'static [Poke]);
+
+/// A row's name, or none where it is refused; destination and source; the union and its answer; then calls on either and their answers.
+type Union = (&'static str, [Half; 2], (Join, Answer), [&'static [Ask]; 2]);
+
+const ONE: [u64; 6] = [9, 1, 1, 0, 1, 0];
+const PAGED: [u64; 6] = [9, 1, 1, 0, 1, 1];
+const ROW: [u64; 6] = [9, 2, 1, 0, 1, 0];
+const PAGE: [u64; 6] = [9, 1, 1, 0, 0, 1];
+const NOTHING: [u64; 6] = [9, 1, 0, 0, 0, 0];
+
+const UNIONS: [Union; 11] = [
+    // three heads for two members
+    (
+        "falling", [([9, 2, 1, 0, 1, 1], &[Set(2)], &[]), (ROW, &[Set(1), Set(2)], &[Rows(0, 9)])], (Join::MergeFrom, DONE),
+        [&[Of(Len, TWO), Of(SetPrepared(9), NO), Of(Check, YES)], &[List(2, &[9, 2])]],
+    ),
+    ("falling", [(ROW, &[], &[]), (ROW, &[Set(1), Set(2)], &[Rows(0, 9)])], (Join::Merge, DONE), [&[List(2, &[9, 2]), Of(Check, NO)], &[Of(Check, YES)]]),
+    ("", [(ROW, &[Set(2)], &[]), (ROW, &[Set(1), Set(2)], &[Rows(0, 9)])], (Join::MergeFrom, refusal(8)), [&[], &[]]),
+    ("far", [(PAGED, &[Set(6)], &[]), (ONE, &[Set(5)], &[Rows(0, 517)])], (Join::MergeFrom, DONE), [&[Of(Get(5), YES), Of(Check, YES)], &[]]),
+    ("free row", [(ROW, &[], &[Rows(1, 7)]), (ROW, &[Set(0)], &[])], (Join::MergeFrom, DONE), [&[Of(Len, YES), Of(Check, NO)], &[]]),
+    ("free page", [(PAGED, &[Set(0)], &[Pages(0, 2)]), (ONE, &[Set(5)], &[])], (Join::MergeFrom, DONE), [&[Of(Get(1), YES), Of(Check, YES)], &[]]),
+    // a page that is copied leaves nothing of what was there
+    ("elsewhere", [(PAGE, &[], &[Pages(0, 1)]), (PAGE, &[PreAllocate(0)], &[])], (Join::MergeFrom, DONE), [&[Of(Get(0), NO), Of(Check, YES)], &[]]),
+    ("written over", [(NOTHING, &[], &[]), (NOTHING, &[], &[Table(8, 1)])], (Join::Merge, DONE), [&[Of(Check, YES)], &[Of(Check, YES)]]),
+    ("elsewhere", [(NOTHING, &[], &[]), (NOTHING, &[], &[Table(8, 1)])], (Join::MergeFrom, DONE), [&[Of(Check, YES)], &[Of(Check, NO)]]),
+    // the walks come before 4 and 10
+    ("", [(NOTHING, &[IntoRanked], &[]), (NOTHING, &[], &[Table(9, 1)])], (Join::Merge, BAD), [&[], &[]]),
+    ("", [(NOTHING, &[], &[Table(9, 1)]), ([9, 2, 0, 0, 0, 0], &[], &[])], (Join::MergeFrom, BAD), [&[], &[]]),
+];
+
 const fn refusal(no: u64) -> Answer {
     Answer { kind: 2, value: no }
 }
@@ -152,12 +185,30 @@ fn ask(x: &mut Memory, ask: Ask, of: &str) -> Option<(Call, Said)> {
     }
 }
 
+fn made(name: &str, ([s, m, d, v, r, p], made, pokes): Half) -> Memory {
+    let mut x = Memory::new(Sizes { s, m, d, v, r, p });
+    made.iter().for_each(|call| assert!(call.make(&mut x).refusal().is_none(), "smallest input of {name}: {call:?} is refused"));
+    pokes.iter().for_each(|&p| poke(&mut x, p));
+    x
+}
+
+fn union((name, halves, (join, answer), asks): Union) {
+    let [mut x, mut y] = halves.map(|half| made(name, half));
+    let of = if name.is_empty() { "a refusal" } else { name };
+    let (before, source) = (x.clone(), y.clone());
+    assert_eq!(join.make(&mut x, &mut y), answer, "smallest input of {of}: {join:?}");
+    let pair = Pair::new(&before, &source);
+    let row = pair.after(join).map(|after| pair.row(join, &after).name());
+    assert_eq!(row.unwrap_or(""), name, "smallest input: {join:?}");
+    for (x, asks) in [x, y].iter_mut().zip(asks) {
+        asks.iter().for_each(|&a| _ = ask(x, a, of));
+    }
+}
+
 /// Every case, and every row has one; answers fall under it as long as memory is as it was poked.
 pub fn run() {
-    for (name, [s, m, d, v, r, p], made, pokes, asks) in CASES {
-        let mut x = Memory::new(Sizes { s, m, d, v, r, p });
-        made.iter().for_each(|call| assert!(call.make(&mut x).refusal().is_none(), "smallest input of {name}: {call:?} is refused"));
-        pokes.iter().for_each(|&p| poke(&mut x, p));
+    for (name, sizes, calls, pokes, asks) in CASES {
+        let mut x = made(name, (sizes, calls, pokes));
         let broken = second::read(&x).expect_err("memory of a smallest input follows the layout");
         let (poked, bad, of) = (x.clone(), Bad::new(&x, broken), if name.is_empty() { "a refusal" } else { name });
         for &a in asks {
@@ -167,6 +218,7 @@ pub fn run() {
             }
         }
     }
+    UNIONS.into_iter().for_each(union);
     assert!(NAMES.iter().all(|name| CASES.iter().any(|case| case.0 == *name)), "a row without a smallest input");
     let list = std::fs::read_to_string("docs/EXCEPTIONS.md").expect("docs/EXCEPTIONS.md");
     let rows = list.lines().filter_map(|line| line.strip_prefix("| ")?.split(" | ").next()).skip(1);
