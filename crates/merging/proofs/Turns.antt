@@ -21,8 +21,11 @@ use Rattle.unions.specs.Joins.{Joins}
 use Rattle.unions.proofs.Standing.{chunk-in}
 use Rattle.unions.proofs.Results.{same-s, same-m}
 use Rattle.unions.proofs.Onward.{Turned}
-use Rattle.merging.specs.Ready.{PagePools, RowPools, Turn, Entry}
-use Rattle.merging.specs.Effects.{Densely, Sparsely, DenseTurn, SparseTurn}
+use Rattle.merge_slots.specs.Pools.{PagePools, RowPools}
+use Rattle.merge_chunk.specs.Ready.{Turn}
+use Rattle.merge_chunk.specs.Effects.{Densely, Sparsely}
+use Rattle.merging.specs.Ready.{Entry}
+use Rattle.merging.specs.Effects.{DenseTurn, SparseTurn}
 
 -- ---- the chunk of entry e
 

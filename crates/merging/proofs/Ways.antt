@@ -16,7 +16,8 @@ use Rattle.calls.proofs.FirstFree.{first-free}
 use Rattle.unions.specs.Union.{sourceEntries, denseTo, sparseTo, unitedBy}
 use Rattle.unions.specs.Joins.{Joins}
 use Rattle.unions.proofs.Onward.{Turned, Kept, dense-turned, sparse-turned, dense-kept, sparse-kept}
-use Rattle.merging.specs.Ready.{PagePools, RowPools, Entry, Sound, RowsSound}
+use Rattle.merge_slots.specs.Pools.{PagePools, RowPools}
+use Rattle.merging.specs.Ready.{Entry, Sound, RowsSound}
 use Rattle.merging.specs.Effects.{denselyAt, sparselyAt, DenseTurn, SparseTurn}
 use Rattle.merging.proofs.Turns.{page-pools, row-pools, entries-few, entry-ready, slot-next}
 

@@ -1,8 +1,5 @@
 // Union: a source's members into a destination. Judged by a crate that only reads, then written in two passes over the source's entries.
-mod chunk;
-mod page;
 mod pass;
-mod row;
 
 ghost use Rattle.document.specs.Union.{merge-from, merge};
 ghost use Rattle.layout.specs.Mem.{memOf};

@@ -8,9 +8,9 @@ ghost use Rattle.layout.specs.Sizes.{headerAt};
 ghost use Rattle.layout.specs.Places.{rowOwner, pageOwner};
 ghost use Rattle.layout.specs.Free.{firstFree};
 ghost use Rattle.unions.specs.Union.{sourceEntries, denseTo, sparseTo, unitedBy};
-ghost use Rattle.merging.specs.Ready.{PagePools, RowPools, Entry, Sound, RowsSound};
+ghost use Rattle.merge_slots.specs.Pools.{PagePools, RowPools};
+ghost use Rattle.merging.specs.Ready.{Entry, Sound, RowsSound};
 ghost use Rattle.merging.specs.Effects.{DenseTurn, SparseTurn};
-use crate::chunk;
 use document::sizes::Sizes;
 use layout::entry;
 use layout::head;
@@ -38,7 +38,7 @@ fn dense_turn(
     let c = entry::chunk_at(stable, g, e);
     let o = place::standing(table, h, c);
     let q = place::source(stable, g, e);
-    chunk::densely(pages, rows, table, h, c, o, p, spages, srows, g, q);
+    merge_chunk::densely(pages, rows, table, h, c, o, p, spages, srows, g, q);
 }
 
 // All entries. Pages are only taken, so that none below p is free again.
@@ -86,7 +86,7 @@ fn sparse_turn(
     let c = entry::chunk_at(stable, g, e);
     let o = place::standing(table, h, c);
     let q = place::source(stable, g, e);
-    chunk::sparsely(rows, table, h, c, o, r, srows, g, q);
+    merge_chunk::sparsely(rows, table, h, c, o, r, srows, g, q);
 }
 
 // All entries. Rows are only taken now, so that none below r is free again.
