@@ -132,7 +132,7 @@ impl Run {
         let (said, here, there) = self.union(&pair, join, &after);
         if g.one_in(8) {
             let (mut again, mut other) = (x.clone(), y.clone());
-            self.both(join.make(&mut again, &mut other) == said && again == here && other == there, "not the same a second time", join, &pair);
+            self.ensure_pair(join.make(&mut again, &mut other) == said && again == here && other == there, "not the same a second time", join, &pair);
         }
         if let (Ok(after), true) = (&after, pair.here.is_err() || pair.there.is_err()) {
             self.rows[pair.row(join, after) as usize] += 1;
@@ -145,11 +145,11 @@ impl Run {
         let (mut x, mut y) = (pair.x.clone(), pair.y.clone());
         let said = join.make(&mut x, &mut y);
         self.calls += 1;
-        self.both(said == after.as_ref().map_or_else(|&no| refused(no), |_| DONE), "another answer", join, pair);
+        self.ensure_pair(said == after.as_ref().map_or_else(|&no| refused(no), |_| DONE), "another answer", join, pair);
         match after {
             Err(no) => {
                 self.refusals[*no as usize] += 1;
-                self.both(x == *pair.x && y == *pair.y, "memory changed", join, pair);
+                self.ensure_pair(x == *pair.x && y == *pair.y, "memory changed", join, pair);
             }
             Ok(after) => {
                 self.changes += 1;
@@ -163,20 +163,20 @@ impl Run {
     /// The destination stands for the union, and breaks no rule that it didn't break.
     fn united(&self, x: &mut Memory, after: &Plain, join: Join, pair: &Pair) {
         let broken = read(x).err().unwrap_or_default();
-        self.both(standing(x).as_ref() == Some(after), "another set", join, pair);
-        self.both(broken.iter().all(|&rule| pair.broken_before(rule)), "a rule is broken", join, pair);
-        self.both(x.bp_check() == broken.is_empty(), "the checks differ", join, pair);
-        self.both(past_stays(pair.x, x, after.sizes.needs()), "an element past the sizes changed", join, pair);
+        self.ensure_pair(standing(x).as_ref() == Some(after), "another set", join, pair);
+        self.ensure_pair(broken.iter().all(|&rule| pair.broken_before(rule)), "a rule is broken", join, pair);
+        self.ensure_pair(x.bp_check() == broken.is_empty(), "the checks differ", join, pair);
+        self.ensure_pair(past_stays(pair.x, x, after.sizes.needs()), "an element past the sizes changed", join, pair);
     }
 
     /// The source is as it was, or as set-up leaves it.
     fn left(&self, y: &mut Memory, join: Join, pair: &Pair) {
         let Some(Plain { sizes, .. }) = walked(&pair.there) else { return };
         let emptied = |y: &mut Memory| y.bp_check() && read(y) == Ok(Plain::empty(*sizes)) && past_stays(pair.y, y, sizes.needs());
-        self.both(if join == Join::Merge { emptied(y) } else { y == pair.y }, "another source", join, pair);
+        self.ensure_pair(if join == Join::Merge { emptied(y) } else { y == pair.y }, "another source", join, pair);
     }
 
-    fn both(&self, fine: bool, what: &str, join: Join, pair: &Pair) {
+    fn ensure_pair(&self, fine: bool, what: &str, join: Join, pair: &Pair) {
         if !fine {
             let source = pair.y.table.iter().take(90).collect::<Vec<_>>();
             let broken = pair.there.as_ref().err().map(|bad| &bad.broken);
