@@ -118,6 +118,12 @@ bp_ranks_answer bp_ranks(uint64_t total, uint64_t slots, uint64_t partitions, ui
 bool bp_in_partition(int64_t id, bool has_high, int64_t low, int64_t high);
 bool bp_range_meets(int64_t min, int64_t max, bool has_high, int64_t low, int64_t high);
 
+/* The range list: record i is the ids from lows[i] to highs[i], both included, and marks[i] becomes 1 where a member lies among them, or where they meet
+ * partition k; else 0. As many records as the shortest of the three slices has; marks past them stay. Done, or 3; done, or 3, 12. */
+#define BP_RANGES const int64_t *lows, size_t lows_n, const int64_t *highs, size_t highs_n, uint8_t *marks, size_t marks_n
+bp_answer bp_mark_ends_by_range(BP_RANGES, BP_SET);
+bp_answer bp_mark_ends_by_partition(BP_RANGES, uint64_t total, uint64_t slots, uint64_t partitions, const int64_t *bounds, size_t bounds_n, uint64_t k);
+
 /* The slots that a budget of bytes buys; the highest id that a file of this length allows where it claims one. */
 uint64_t bp_slots_for_budget(uint64_t bytes);
 int64_t bp_file_bounded_max_id(int64_t claim, uint64_t length, uint64_t per_byte);

@@ -2,5 +2,6 @@
 pub mod change;
 pub mod number;
 pub mod partition;
+pub mod ranges;
 pub mod read;
 pub mod union;
