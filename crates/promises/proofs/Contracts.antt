@@ -20,6 +20,7 @@ use Rattle.layout.specs.SetUp.{sizesOf}
 use Rattle.document.specs.Union as union
 use Rattle.contracts.specs.Does.{Does, Answers, SetsUp, Joins}
 use Rattle.cuts.specs.Promise.{Plans}
+use Rattle.range_list.specs.Marks.{MarksByRange, MarksByPartition, EndsByRange, EndsByPartition}
 use Rattle.promises.proofs.Ensures.{four, two, Ensures}
 use Rattle.idset.proofs.setup.set_up as set_up
 use Rattle.inserts.proofs.insert.set_if_new as set_if_new
@@ -48,6 +49,10 @@ use Rattle.cuts.proofs.interval.ids as ids
 use Rattle.cuts.proofs.interval.ranks as ranks
 use Rattle.cuts.proofs.interval.«in_partition» as within
 use Rattle.cuts.proofs.interval.range_meets as range_meets
+use Rattle.range_list.proofs.list.mark_by_range as mark_by_range
+use Rattle.range_list.proofs.list.mark_by_partition as mark_by_partition
+use Rattle.range_list.proofs.ends.mark_ends_by_range as mark_ends_by_range
+use Rattle.range_list.proofs.ends.mark_ends_by_partition as mark_ends_by_partition
 use Rattle.numbers.proofs.budget.slots_for_budget as slots_for_budget
 use Rattle.numbers.proofs.budget.file_bounded_max_id as file_bounded_max_id
 use Rattle.idset.proofs.setup.set_up.Symbol as set_up-at
@@ -77,6 +82,10 @@ use Rattle.cuts.proofs.interval.ids.Symbol as ids-at
 use Rattle.cuts.proofs.interval.ranks.Symbol as ranks-at
 use Rattle.cuts.proofs.interval.«in_partition».Symbol as within-at
 use Rattle.cuts.proofs.interval.range_meets.Symbol as range_meets-at
+use Rattle.range_list.proofs.list.mark_by_range.Symbol as mark_by_range-at
+use Rattle.range_list.proofs.list.mark_by_partition.Symbol as mark_by_partition-at
+use Rattle.range_list.proofs.ends.mark_ends_by_range.Symbol as mark_ends_by_range-at
+use Rattle.range_list.proofs.ends.mark_ends_by_partition.Symbol as mark_ends_by_partition-at
 use Rattle.numbers.proofs.budget.slots_for_budget.Symbol as slots_for_budget-at
 use Rattle.numbers.proofs.budget.file_bounded_max_id.Symbol as file_bounded_max_id-at
 use Rattle.idset.proofs.setup.set_up.Met as set_up-met
@@ -106,6 +115,10 @@ use Rattle.cuts.proofs.interval.ids.Met as ids-met
 use Rattle.cuts.proofs.interval.ranks.Met as ranks-met
 use Rattle.cuts.proofs.interval.«in_partition».Met as within-met
 use Rattle.cuts.proofs.interval.range_meets.Met as range_meets-met
+use Rattle.range_list.proofs.list.mark_by_range.Met as mark_by_range-met
+use Rattle.range_list.proofs.list.mark_by_partition.Met as mark_by_partition-met
+use Rattle.range_list.proofs.ends.mark_ends_by_range.Met as mark_ends_by_range-met
+use Rattle.range_list.proofs.ends.mark_ends_by_partition.Met as mark_ends_by_partition-met
 use Rattle.numbers.proofs.budget.slots_for_budget.Met as slots_for_budget-met
 use Rattle.numbers.proofs.budget.file_bounded_max_id.Met as file_bounded_max_id-met
 
@@ -191,6 +204,18 @@ module _ {M : Type 1} (𝓤 : URA M) (H : Heap 𝓤) where
 
     pub range-meets-is : range_meets.spec 𝓤 H A m run ≡ Ensures 𝓤 H A range_meets.ended (λ κs a r e. r ≡ rangeMeets (a .0) (a .1 .0) (a .1 .1 .0))
     range-meets-is = refl
+
+    pub mark-by-range-is : mark_by_range.spec 𝓤 H A m run ≡ Ensures 𝓤 H A mark_by_range.ended (λ κs a r e. MarksByRange (four (a .1)) (now (a .0)) r (now (e .0)))
+    mark-by-range-is = refl
+
+    pub mark-by-partition-is : mark_by_partition.spec 𝓤 H A m run ≡ Ensures 𝓤 H A mark_by_partition.ended (λ κs a r e. MarksByPartition (idsAnswer (a .1 .0) (now (a .1 .1 .0)) (a .1 .1 .1 .0)) (now (a .0)) r (now (e .0)))
+    mark-by-partition-is = refl
+
+    pub mark-ends-by-range-is : mark_ends_by_range.spec 𝓤 H A m run ≡ Ensures 𝓤 H A mark_ends_by_range.ended (λ κs a r e. EndsByRange (four (a .1 .1 .1)) (now (a .0)) (now (a .1 .0)) (now (a .1 .1 .0)) r (now (e .1 .1 .0)))
+    mark-ends-by-range-is = refl
+
+    pub mark-ends-by-partition-is : mark_ends_by_partition.spec 𝓤 H A m run ≡ Ensures 𝓤 H A mark_ends_by_partition.ended (λ κs a r e. EndsByPartition (idsAnswer (a .1 .1 .1 .0) (now (a .1 .1 .1 .1 .0)) (a .1 .1 .1 .1 .1 .0)) (now (a .0)) (now (a .1 .0)) (now (a .1 .1 .0)) r (now (e .1 .1 .0)))
+    mark-ends-by-partition-is = refl
 
     pub slots-for-budget-is : slots_for_budget.spec 𝓤 H A m run ≡ Ensures 𝓤 H A slots_for_budget.ended (λ κs a r e. r ≡ slotsForBudget (a .0))
     slots-for-budget-is = refl
@@ -306,6 +331,22 @@ module _ {M : Type 1} (𝓤 : URA M) (H : Heap 𝓤) where
     pub range-meets-meets : Meets 𝓤 H (𝓖 .A) range_meets.signature (𝓡 .run range_meets-at.routine)
         (Ensures 𝓤 H (𝓖 .A) range_meets.ended (λ κs a r e. r ≡ rangeMeets (a .0) (a .1 .0) (a .1 .1 .0)))
     range-meets-meets = range_meets-met.met 𝓤 H 𝓜 𝓖 𝓡
+
+    pub mark-by-range-meets : Meets 𝓤 H (𝓖 .A) mark_by_range.signature (𝓡 .run mark_by_range-at.routine)
+        (Ensures 𝓤 H (𝓖 .A) mark_by_range.ended (λ κs a r e. MarksByRange (four (a .1)) (now (a .0)) r (now (e .0))))
+    mark-by-range-meets = mark_by_range-met.met 𝓤 H 𝓜 𝓖 𝓡
+
+    pub mark-by-partition-meets : Meets 𝓤 H (𝓖 .A) mark_by_partition.signature (𝓡 .run mark_by_partition-at.routine)
+        (Ensures 𝓤 H (𝓖 .A) mark_by_partition.ended (λ κs a r e. MarksByPartition (idsAnswer (a .1 .0) (now (a .1 .1 .0)) (a .1 .1 .1 .0)) (now (a .0)) r (now (e .0))))
+    mark-by-partition-meets = mark_by_partition-met.met 𝓤 H 𝓜 𝓖 𝓡
+
+    pub mark-ends-by-range-meets : Meets 𝓤 H (𝓖 .A) mark_ends_by_range.signature (𝓡 .run mark_ends_by_range-at.routine)
+        (Ensures 𝓤 H (𝓖 .A) mark_ends_by_range.ended (λ κs a r e. EndsByRange (four (a .1 .1 .1)) (now (a .0)) (now (a .1 .0)) (now (a .1 .1 .0)) r (now (e .1 .1 .0))))
+    mark-ends-by-range-meets = mark_ends_by_range-met.met 𝓤 H 𝓜 𝓖 𝓡
+
+    pub mark-ends-by-partition-meets : Meets 𝓤 H (𝓖 .A) mark_ends_by_partition.signature (𝓡 .run mark_ends_by_partition-at.routine)
+        (Ensures 𝓤 H (𝓖 .A) mark_ends_by_partition.ended (λ κs a r e. EndsByPartition (idsAnswer (a .1 .1 .1 .0) (now (a .1 .1 .1 .1 .0)) (a .1 .1 .1 .1 .1 .0)) (now (a .0)) (now (a .1 .0)) (now (a .1 .1 .0)) r (now (e .1 .1 .0))))
+    mark-ends-by-partition-meets = mark_ends_by_partition-met.met 𝓤 H 𝓜 𝓖 𝓡
 
     pub slots-for-budget-meets : Meets 𝓤 H (𝓖 .A) slots_for_budget.signature (𝓡 .run slots_for_budget-at.routine)
         (Ensures 𝓤 H (𝓖 .A) slots_for_budget.ended (λ κs a r e. r ≡ slotsForBudget (a .0)))

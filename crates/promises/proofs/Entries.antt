@@ -25,6 +25,7 @@ use Rattle.layout.specs.SetUp.{sizesOf}
 use Rattle.document.specs.Union as union
 use Rattle.contracts.specs.Does.{Does, Answers, SetsUp, Joins}
 use Rattle.cuts.specs.Promise.{Plans}
+use Rattle.range_list.specs.Marks.{EndsByRange, EndsByPartition}
 use Rattle.codes.specs.Codes.{Coded, outcomeCode, truthCode, amountCode, perhapsCode, planningCode, spannedCode, ranksCode, planIn, spanIn}
 use Rattle.promises.proofs.Ensures.{four, two, Ensures}
 use Rattle.exports.proofs.change.bp_set_up as bp_set_up
@@ -53,6 +54,8 @@ use Rattle.exports.proofs.partition.bp_ids as bp_ids
 use Rattle.exports.proofs.partition.bp_ranks as bp_ranks
 use Rattle.exports.proofs.partition.«bp_in_partition» as bp_within
 use Rattle.exports.proofs.partition.bp_range_meets as bp_range_meets
+use Rattle.exports.proofs.ranges.bp_mark_ends_by_range as bp_mark_ends_by_range
+use Rattle.exports.proofs.ranges.bp_mark_ends_by_partition as bp_mark_ends_by_partition
 use Rattle.exports.proofs.number.bp_slots_for_budget as bp_slots_for_budget
 use Rattle.exports.proofs.number.bp_file_bounded_max_id as bp_file_bounded_max_id
 use Rattle.exports.proofs.change.bp_set_up.Symbol as bp_set_up-at
@@ -81,6 +84,8 @@ use Rattle.exports.proofs.partition.bp_ids.Symbol as bp_ids-at
 use Rattle.exports.proofs.partition.bp_ranks.Symbol as bp_ranks-at
 use Rattle.exports.proofs.partition.«bp_in_partition».Symbol as bp_within-at
 use Rattle.exports.proofs.partition.bp_range_meets.Symbol as bp_range_meets-at
+use Rattle.exports.proofs.ranges.bp_mark_ends_by_range.Symbol as bp_mark_ends_by_range-at
+use Rattle.exports.proofs.ranges.bp_mark_ends_by_partition.Symbol as bp_mark_ends_by_partition-at
 use Rattle.exports.proofs.number.bp_slots_for_budget.Symbol as bp_slots_for_budget-at
 use Rattle.exports.proofs.number.bp_file_bounded_max_id.Symbol as bp_file_bounded_max_id-at
 use Rattle.exports.proofs.change.bp_set_up.Met as bp_set_up-met
@@ -109,6 +114,8 @@ use Rattle.exports.proofs.partition.bp_ids.Met as bp_ids-met
 use Rattle.exports.proofs.partition.bp_ranks.Met as bp_ranks-met
 use Rattle.exports.proofs.partition.«bp_in_partition».Met as bp_within-met
 use Rattle.exports.proofs.partition.bp_range_meets.Met as bp_range_meets-met
+use Rattle.exports.proofs.ranges.bp_mark_ends_by_range.Met as bp_mark_ends_by_range-met
+use Rattle.exports.proofs.ranges.bp_mark_ends_by_partition.Met as bp_mark_ends_by_partition-met
 use Rattle.exports.proofs.number.bp_slots_for_budget.Met as bp_slots_for_budget-met
 use Rattle.exports.proofs.number.bp_file_bounded_max_id.Met as bp_file_bounded_max_id-met
 
@@ -191,6 +198,12 @@ module _ {M : Type 1} (𝓤 : URA M) (H : Heap 𝓤) where
 
     pub bp-range-meets-is : bp_range_meets.spec 𝓤 H A m run ≡ Ensures 𝓤 H A bp_range_meets.ended (λ κs a r e. r ≡ rangeMeets (a .0) (a .1 .0) (spanIn (a .1 .1 .0) (a .1 .1 .1 .0) (a .1 .1 .1 .1 .0)))
     bp-range-meets-is = refl
+
+    pub bp-mark-ends-by-range-is : bp_mark_ends_by_range.spec 𝓤 H A m run ≡ Ensures 𝓤 H A bp_mark_ends_by_range.ended (λ κs a r e. Coded outcomeCode (λ (t : Outcome). EndsByRange (four (a .1 .1 .1)) (now (a .0)) (now (a .1 .0)) (now (a .1 .1 .0)) t (now (e .1 .1 .0))) r)
+    bp-mark-ends-by-range-is = refl
+
+    pub bp-mark-ends-by-partition-is : bp_mark_ends_by_partition.spec 𝓤 H A m run ≡ Ensures 𝓤 H A bp_mark_ends_by_partition.ended (λ κs a r e. Coded outcomeCode (λ (t : Outcome). EndsByPartition (idsAnswer (planIn (a .1 .1 .1 .0) (a .1 .1 .1 .1 .0) (a .1 .1 .1 .1 .1 .0)) (now (a .1 .1 .1 .1 .1 .1 .0)) (a .1 .1 .1 .1 .1 .1 .1 .0)) (now (a .0)) (now (a .1 .0)) (now (a .1 .1 .0)) t (now (e .1 .1 .0))) r)
+    bp-mark-ends-by-partition-is = refl
 
     pub bp-slots-for-budget-is : bp_slots_for_budget.spec 𝓤 H A m run ≡ Ensures 𝓤 H A bp_slots_for_budget.ended (λ κs a r e. r ≡ slotsForBudget (a .0))
     bp-slots-for-budget-is = refl
@@ -302,6 +315,14 @@ module _ {M : Type 1} (𝓤 : URA M) (H : Heap 𝓤) where
     pub bp-range-meets-meets : Meets 𝓤 H (𝓖 .A) bp_range_meets.signature (𝓡 .run bp_range_meets-at.routine)
         (Ensures 𝓤 H (𝓖 .A) bp_range_meets.ended (λ κs a r e. r ≡ rangeMeets (a .0) (a .1 .0) (spanIn (a .1 .1 .0) (a .1 .1 .1 .0) (a .1 .1 .1 .1 .0))))
     bp-range-meets-meets = bp_range_meets-met.met 𝓤 H 𝓜 𝓖 𝓡
+
+    pub bp-mark-ends-by-range-meets : Meets 𝓤 H (𝓖 .A) bp_mark_ends_by_range.signature (𝓡 .run bp_mark_ends_by_range-at.routine)
+        (Ensures 𝓤 H (𝓖 .A) bp_mark_ends_by_range.ended (λ κs a r e. Coded outcomeCode (λ (t : Outcome). EndsByRange (four (a .1 .1 .1)) (now (a .0)) (now (a .1 .0)) (now (a .1 .1 .0)) t (now (e .1 .1 .0))) r))
+    bp-mark-ends-by-range-meets = bp_mark_ends_by_range-met.met 𝓤 H 𝓜 𝓖 𝓡
+
+    pub bp-mark-ends-by-partition-meets : Meets 𝓤 H (𝓖 .A) bp_mark_ends_by_partition.signature (𝓡 .run bp_mark_ends_by_partition-at.routine)
+        (Ensures 𝓤 H (𝓖 .A) bp_mark_ends_by_partition.ended (λ κs a r e. Coded outcomeCode (λ (t : Outcome). EndsByPartition (idsAnswer (planIn (a .1 .1 .1 .0) (a .1 .1 .1 .1 .0) (a .1 .1 .1 .1 .1 .0)) (now (a .1 .1 .1 .1 .1 .1 .0)) (a .1 .1 .1 .1 .1 .1 .1 .0)) (now (a .0)) (now (a .1 .0)) (now (a .1 .1 .0)) t (now (e .1 .1 .0))) r))
+    bp-mark-ends-by-partition-meets = bp_mark_ends_by_partition-met.met 𝓤 H 𝓜 𝓖 𝓡
 
     pub bp-slots-for-budget-meets : Meets 𝓤 H (𝓖 .A) bp_slots_for_budget.signature (𝓡 .run bp_slots_for_budget-at.routine)
         (Ensures 𝓤 H (𝓖 .A) bp_slots_for_budget.ended (λ κs a r e. r ≡ slotsForBudget (a .0)))

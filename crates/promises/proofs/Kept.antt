@@ -6,12 +6,14 @@ use Rattle.document.specs.State.{State, empty}
 use Rattle.document.specs.Answers.{answer, after, reply}
 use Rattle.document.specs.Union.{Join, unionAnswer, united, leftover}
 use Rattle.document.specs.Plan.{PlansFor}
+use Rattle.document.specs.RangeList.{marks, marksIn, hits}
 use Rattle.document.specs.declared.answer.Outcome.{Outcome}
+use Rattle.document.specs.declared.answer.Outcome.the-variants.{Done}
 use Rattle.layout.specs.Mem.{Mem}
 use Rattle.layout.specs.Meaning.{stateOf}
 use Rattle.layout.specs.Follows.{Follows}
 use Rattle.contracts.specs.Does.{Joins}
-use Rattle.promises.specs.Histories.{Step, set-up, changed, read, planned, Story, made, then, took, gave, remade, lastBy, last, Stepped, Ran, describedBy, described, RightBy, Kept}
+use Rattle.promises.specs.Histories.{Step, set-up, changed, read, planned, marked, marked-ends, Story, made, then, took, gave, remade, lastBy, last, Stepped, Ran, describedBy, described, RightBy, Kept}
 use Rattle.promises.proofs.SetUps.{fit, set-up-right, set-up-follows, set-up-state}
 
 -- one step
@@ -27,6 +29,8 @@ onward x q (changed c a y) w s d =
     record { follows = r .follows; state = r .state ∙ ap (λ (p : State). after p c) s; right = r .said ∙ ap (λ (p : State). answer p c) s }
 onward x q (read k a) w s d = record { follows = w; state = s; right = d .says w ∙ ap (λ (p : State). reply p k) s }
 onward x q (planned S bs a cs) w s d = record { follows = w; state = s; right = subst (λ (p : State). PlansFor p S bs a cs) s (d .says w) }
+onward x q (marked rs a us) w s d = record { follows = w; state = s; right = subst (λ (p : State). (a ≡ Done) × (us ≡ marks (hits p) rs)) s (d .says w) }
+onward x q (marked-ends los his ms a ns) w s d = record { follows = w; state = s; right = subst (λ (p : State). (a ≡ Done) × (ns ≡ marksIn (hits p) los his ms)) s (d .says w) }
 
 pub all-kept : (s : Story) → Ran s → Kept s
 all-kept (made h x y) r =

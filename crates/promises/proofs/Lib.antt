@@ -11,3 +11,4 @@ pub mod Ensures
 pub mod Contracts
 pub mod Entries
 pub mod Theorems
+pub mod Ranges

@@ -10,6 +10,8 @@ use Rattle.document.specs.Calls.{Call, Ask, Said}
 use Rattle.document.specs.Answers.{answer, after, reply}
 use Rattle.document.specs.Union.{Join, unionAnswer, united, leftover}
 use Rattle.document.specs.Plan.{PlansFor}
+use Rattle.document.specs.RangeList.{marks, marksIn, hits}
+use Rattle.document.specs.declared.range.Range.{Range}
 use Rattle.document.specs.declared.sizes.Sizes.{Sizes}
 use Rattle.document.specs.declared.answer.Outcome.{Outcome}
 use Rattle.document.specs.declared.answer.Outcome.the-variants.{Done, Refused}
@@ -20,13 +22,16 @@ use Rattle.layout.specs.Meaning.{stateOf}
 use Rattle.layout.specs.Follows.{Follows}
 use Rattle.contracts.specs.Does.{Does, Answers, SetsUp, Joins}
 use Rattle.cuts.specs.Promise.{Plans}
+use Rattle.range_list.specs.Marks.{MarksByRange, EndsByRange}
 
--- a call on one set, its answer, and what it leaves; a reading call and its answer
+-- a call on one set, its answer, and what it leaves of the set, of boundaries or of a range list; a reading call and its answer
 pub data Step : Type 0 where
   set-up : Sizes → Outcome → Mem → Step
   changed : Call → Said → Mem → Step
   read : Ask → Said → Step
   planned : ℕ → List ℤ → Planning → List ℤ → Step
+  marked : List Range → Outcome → List Range → Step
+  marked-ends : List ℤ → List ℤ → List ℕ → Outcome → List ℕ → Step
 
 -- one set's history
 pub data Story : Type 0 where
@@ -45,6 +50,8 @@ lastBy x (set-up h a y) = y
 lastBy x (changed c a y) = y
 lastBy x (read k a) = x
 lastBy x (planned S bs a cs) = x
+lastBy x (marked rs a us) = x
+lastBy x (marked-ends los his ms a ns) = x
 
 abbrev pub last : Story → Mem
 last (made h x y) = y
@@ -58,6 +65,8 @@ Stepped x (set-up h a y) = SetsUp h x a y
 Stepped x (changed c a y) = Does x c a y
 Stepped x (read k a) = Answers x k a
 Stepped x (planned S bs a cs) = Plans x S bs a cs
+Stepped x (marked rs a us) = MarksByRange x rs a us
+Stepped x (marked-ends los his ms a ns) = EndsByRange x los his ms a ns
 
 abbrev pub Ran : Story → Type 0
 Ran (made h x y) = SetsUp h x Done y
@@ -77,6 +86,8 @@ describedBy q (set-up h a y) = remade q h a
 describedBy q (changed c a y) = after q c
 describedBy q (read k a) = q
 describedBy q (planned S bs a cs) = q
+describedBy q (marked rs a us) = q
+describedBy q (marked-ends los his ms a ns) = q
 
 -- the set after it
 abbrev pub described : Story → State
@@ -97,6 +108,8 @@ RightBy x q (set-up h a y) = RightSetUp h x a
 RightBy x q (changed c a y) = a ≡ answer q c
 RightBy x q (read k a) = a ≡ reply q k
 RightBy x q (planned S bs a cs) = PlansFor q S bs a cs
+RightBy x q (marked rs a us) = (a ≡ Done) × (us ≡ marks (hits q) rs)
+RightBy x q (marked-ends los his ms a ns) = (a ≡ Done) × (ns ≡ marksIn (hits q) los his ms)
 
 abbrev pub AllRight : Story → Type 0
 AllRight (made h x y) = Unit
