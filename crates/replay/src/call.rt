@@ -1,4 +1,5 @@
 // The calls, each by its verb (verb::of). What they answer is said by verb too (say::answer), but for those that say it themselves.
+use crate::marks;
 use crate::memory;
 use crate::partition;
 use crate::say;
@@ -87,6 +88,8 @@ pub fn reads(v: u64, line: &[u8], p: &[u64], r: &[u32], b: &[u32], t: &[u64], c:
         24 => bounded(line),
         25 => any(line, p, r, b, t),
         26 => say::listing(read::bp_iter_from(p, r, b, t, words::id_or(line, 2, 0))),
+        29 => marks::mark(line, p, r, b, t),
+        30 => marks::meet(line, c),
         _ => say::answer(v, asks(v, words::id_or(line, 2, 0), p, r, b, t)),
     }
 }

@@ -2,6 +2,7 @@
 // Pools go by the letters that `dump` shows: p pages, r rows, b block counts, t table, c boundaries.
 mod call;
 mod input;
+mod marks;
 mod memory;
 mod pair;
 mod partition;

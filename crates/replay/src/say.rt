@@ -84,6 +84,35 @@ fn ids(c: &[i64], n: u64) {
     }
 }
 
+// A mark, a space before it if it is not the first.
+fn mark(i: usize, m: u8) {
+    if 0 < i {
+        text(b" ");
+    }
+    number(b"", m as u64);
+}
+
+// The first n of some marks.
+fn first(marks: &[u8], n: usize) {
+    let mut i: usize = 0;
+    while i < marks.len() {
+        if i < n {
+            mark(i, marks[i]);
+        }
+        i += 1;
+    }
+}
+
+// A line of n marks.
+pub fn marks(a: Answer, marks: &[u8], n: usize) {
+    if a.kind == 2 {
+        value(b"refused ", a.value);
+        return;
+    }
+    first(marks, n);
+    text(b"\n");
+}
+
 // A record of iteration: count, end mark, next start, ids.
 pub fn listing(a: Listing) {
     if a.refusal != 0 {

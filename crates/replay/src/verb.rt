@@ -22,7 +22,7 @@ pub fn numbers(line: &[u8]) -> [u64; 6] {
     ]
 }
 
-// Whether word j is of a kind: a set, a set that word 1 isn't, a room of at most 256 boundaries, a number, or an id.
+// Whether word j is of a kind: a set, a set that word 1 isn't, a room of at most 256 boundaries, a number, a range's low or high end that may lack, or an id.
 fn is(line: &[u8], j: u64, kind: u8) -> bool {
     match kind {
         b'k' => words::number_or(line, j, 2) < 2,
@@ -30,13 +30,15 @@ fn is(line: &[u8], j: u64, kind: u8) -> bool {
             & (words::number_or(line, j, 2) != words::number_or(line, 1, 2)),
         b'r' => words::number_or(line, j, 257) < 257,
         b'n' => words::is_number(line, j),
+        b'l' => words::is_id(line, j) | (words::count(line) <= j),
+        b'h' => words::is_id(line, j) | (words::count(line) < j),
         _ => words::is_id(line, j),
     }
 }
 
-// Whether the words after the first are of these kinds.
+// Whether the words after the first are of these kinds, and no more.
 fn fits(line: &[u8], kinds: &[u8]) -> bool {
-    let mut ok = words::count(line) == (kinds.len() as u64) + 1;
+    let mut ok = words::count(line) <= (kinds.len() as u64) + 1;
     let mut i: usize = 0;
     while i < kinds.len() {
         ok = ok & is(line, (i as u64) + 1, kinds[i]);
@@ -53,12 +55,14 @@ pub fn of(line: &[u8]) -> u64 {
         0,
         b"set prepare rankup open setup poke new put get empty \
         has chunk rank rankif len chunks total check dump plan \
-        part in meets slots bounded any iter from merge",
+        part in meets slots bounded any iter from merge mark \
+        meet",
     );
     let kinds = words::word(
         b"ki ki k k knnnnnn knnn ki ki ki k \
         k ki ki ki k k k k k knr \
-        knnnrn knnnrni knnnrnii n inn kii ki kj kj",
+        knnnrn knnnrni knnnrnii n inn kii ki kj kj kiilhlhlhlhlhlhlh \
+        knnnrniilhlhlhlhlhlhlh",
         v,
     );
     if fits(line, kinds) { v } else { u64::MAX }
