@@ -40,7 +40,7 @@ pub fn two_sets(script: &mut Script, z: Sizes, depth: u32) {
     let unions = [Call::From, Call::Merge, Call::RankUp, Call::Prepare(0)];
     let choices: Vec<On> = (0..2).flat_map(|k| unions.map(|call| (k, call))).chain(news(0, [m, chunk])).chain(news(1, [m, 2 * chunk])).collect();
     let ids = [-1, 0, m - 1, m, chunk, 2 * chunk, 3 * chunk];
-    for (other, depth) in [(z, depth), (Sizes { d: 0, v: z.d + z.v, ..z }, depth), (Sizes { m: z.m - 1, ..z }, depth - 1)] {
+    for (other, depth) in [(z, depth), (Sizes { d: 0, v: z.d + z.v, ..z }, depth), (Sizes { m: z.m.max(2) - 1, ..z }, depth - 1)] {
         for (here, there) in &starts {
             let start: Vec<On> = news(0, here.clone()).chain(news(1, there.clone())).collect();
             script.all_sequences(&[z, other], &start, &choices, depth, &ids);

@@ -1,4 +1,4 @@
-//! Which of the refusals 6, 7 and 8 document 01 gives, from its words alone: kinds by chunk id, counted on the state after the call.
+//! Which of the refusals 6, 7, 8 and 10 document 01 gives, from its words alone: kinds by chunk id, counted on the state after the call.
 use crate::call::Sizes;
 use crate::tally::Tally;
 use crate::unions::Kind;
