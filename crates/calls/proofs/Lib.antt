@@ -1,5 +1,6 @@
 pub mod Outcomes
 pub mod Readings
+pub mod Shifts
 pub mod Counting
 pub mod Clips
 pub mod RangeEntries

@@ -1,6 +1,4 @@
-// The calls on a set: set-up, membership, counts.
+// The calls on a set: set-up, membership.
 mod chunk;
-pub mod count;
-mod parts;
 pub mod read;
 pub mod setup;

@@ -1,2 +1,3 @@
+pub mod Gates
 pub mod Plans
 pub mod Readies

@@ -1,1 +1,2 @@
+pub mod Gate
 pub mod Ready

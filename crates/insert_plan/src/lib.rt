@@ -1,4 +1,6 @@
 // What an insert into an absent or a sparse chunk is to do, found before anything is written. Only what is touched is tested.
+pub mod gate;
+
 ghost use mathlib.Core.Path.{_≡_};
 ghost use Prim.Native.Nat.{_^_, _<_};
 ghost use Rattle.sparse.specs.Search.{spotIn};

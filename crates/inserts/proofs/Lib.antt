@@ -1,6 +1,1 @@
-pub mod Acts
-pub mod Chunks
-pub mod Gates
-pub mod Marks
 pub mod Promises
-pub mod Ways

@@ -3,7 +3,7 @@ use mathlib.Core.Path.{sym, _∙_}
 use Rattle.numbers.specs.Ids.{chunkOf}
 use Rattle.numbers.proofs.Signs.{hop}
 use Rattle.layout.specs.Mem.{Mem, memOf}
-use Rattle.idset.proofs.Shifts.{shift, shift-64, shift-no, shift-yes}
+use Rattle.calls.proofs.Shifts.{shift, shift-64, shift-no, shift-yes}
 use Rattle.idset.proofs.Gets.{chunk-bad, chunk-natural}
 use Rattle.idset.proofs.Promises.{chunk-of}
 use borrow.Author.Needs.{needs}

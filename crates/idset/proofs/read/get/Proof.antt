@@ -1,7 +1,7 @@
 -- A size that is not allowed is refused; then by where the id lies. Assumes nothing.
 use mathlib.Core.Path.{_∙_}
 use Rattle.layout.specs.Mem.{Mem, memOf}
-use Rattle.idset.proofs.Shifts.{shift, shift-64, shift-no, shift-yes, split-is, chunk-small}
+use Rattle.calls.proofs.Shifts.{shift, shift-64, shift-no, shift-yes, split-is, chunk-small}
 use Rattle.idset.proofs.Gets.{get-bad, get-split}
 use Rattle.idset.proofs.Promises.{gets}
 use borrow.Author.Needs.{needs}

@@ -4,8 +4,8 @@ use Prim.Native.Nat.{_^_, _<_}
 use Rattle.numbers.specs.Ids.{splitOf}
 use Rattle.numbers.specs.declared.Split.the-variants as split
 use Rattle.layout.specs.Mem.{Mem, memOf}
-use Rattle.idset.proofs.Shifts.{Shift, shift-64, split-is, chunk-small}
-use Rattle.inserts.proofs.Gates.{open-shift, insert-refused, insert-negative, insert-at}
+use Rattle.calls.proofs.Shifts.{Shift, shift-64, split-is, chunk-small}
+use Rattle.insert_plan.proofs.Gates.{open-shift, insert-refused, insert-negative, insert-at}
 use borrow.Author.Needs.{needs}
 use Rattle.inserts.proofs.insert.anywhere.Statement.{statement}
 use Rattle.inserts.proofs.insert.anywhere.Tie as tie

@@ -4,7 +4,7 @@ use Rattle.numbers.proofs.Signs.{hop}
 use Rattle.layout.specs.Mem.{Mem, memOf}
 use Rattle.calls.specs.Insert.{preparedBy}
 use Rattle.inserts.proofs.Promises.{sets-prepared}
-use Rattle.inserts.proofs.Ways.{short-prepared, then-prepared}
+use Rattle.insert_ways.proofs.Ways.{short-prepared, then-prepared}
 use borrow.Author.Needs.{needs}
 use Rattle.inserts.proofs.insert.set_prepared.Statement.{statement}
 use Rattle.inserts.proofs.insert.set_prepared.Tie as tie

@@ -1,0 +1,129 @@
+-- Only a page takes a prepared id. Assumes nothing.
+use mathlib.Core.Path.{_≡_, sym, _∙_}
+use Prim.Native.Nat.{ℕ, _+_, _*_, _≤_, _<_}
+use lib.ListN.{length}
+use Rattle.layout.specs.Mem.{Mem, memOf}
+use Rattle.layout.specs.Short.{wordIn}
+use Rattle.layout.specs.declared.find.Word.the-variants as word
+use Rattle.layout.specs.declared.find.Spot.{Spot}
+use Rattle.layout.specs.declared.find.Spot.the-variants.{Page}
+use Rattle.calls.specs.Reading.{spotBy}
+use Rattle.insert_plan.proofs.Readies.{page-ready}
+use Rattle.calls.proofs.Places.{none-at, row-at}
+use Rattle.insert_ways.proofs.Chunks.{prepared-bad, prepared-place, prepared-outside, prepared-page}
+use borrow.Author.Needs.{needs}
+use Rattle.insert_ways.proofs.chunk.put_prepared.Statement.{statement}
+use Rattle.insert_ways.proofs.chunk.put_prepared.Tie as tie
+
+abbrev memory : tie.Start → Mem
+memory c = memOf (c .args .pages) (c .args .rows) (c .args .blocks) (c .args .table)
+
+module _ (c : tie.After-spot-of) where
+  abbrev start : tie.Start
+  start = c .before .before .before .before .before .before .before .before .before .before
+
+  abbrev w : ℕ
+  w = c .before .before .before .w .given .0 .0
+
+  word-is : word.Is w ≡ wordIn (memory start .table) (start .args .c)
+  word-is = sym (c .before .before .before .w .given .1) ∙ c .before .before .before .before .before .word-of .ensures
+
+  spotted : (q : Spot) → c .spot-of .result ≡ q → q ≡ spotBy (memory start) w
+  spotted q e = sym e ∙ c .spot-of .ensures
+
+  page-in : (a n : ℕ) → c .spot-of .result ≡ Page a n → (a + n ≤ length (memory start .pages)) × (start .args .o < 64 * n)
+  page-in a n e = page-ready (memory start) (start .args .c) (start .args .o) (start .args .s) (start .pre .2) (start .pre .0) (start .pre .1) (start .pre .3) (start .pre .4) w a n (spotted (Page a n) e)
+
+word-of-requires : tie.Need-word-of-requires
+word-of-requires c κs = search needs
+
+enum-known-w : tie.Need-enum-known-w
+enum-known-w c = search needs
+
+enum-told : tie.Need-enum-told
+enum-told c = search needs
+
+returns : tie.Need-returns
+returns c =
+    let a = c .before .before .before .before .before .before .before in
+    prepared-bad (memory a) (a .args .c) (a .args .o) (sym (c .enum-told .given .1) ∙ c .before .before .word-of .ensures)
+
+spot-of-requires : tie.Need-spot-of-requires
+spot-of-requires c κs = search needs
+
+enum-told-2 : tie.Need-enum-told-2
+enum-told-2 c = search needs
+
+enum-told-3 : tie.Need-enum-told-3
+enum-told-3 c = search needs
+
+enum-known-a : tie.Need-enum-known-a
+enum-known-a c = search needs
+
+mark-requires : tie.Need-mark-requires
+mark-requires c κs = page-in (c .before .before .before .before) _ _ (c .before .before .a .given .1)
+
+enum-told-4 : tie.Need-enum-told-4
+enum-told-4 c = search needs
+
+same-length : tie.Need-same-length
+same-length c = search needs
+
+returns-2 : tie.Need-returns-2
+returns-2 c =
+    let k = c .before .before in
+    let a = start k in
+    prepared-place (memory a) (a .args .c) (a .args .o) (w k) (word-is k) _
+    (none-at (memory a) (w k) (spotted k _ (c .enum-told2 .given .1)))
+
+same-length-2 : tie.Need-same-length-2
+same-length-2 c = search needs
+
+returns-3 : tie.Need-returns-3
+returns-3 c =
+    let k = c .before .before in
+    let a = start k in
+    prepared-place (memory a) (a .args .c) (a .args .o) (w k) (word-is k) _
+    (row-at (memory a) (w k) _ _ _ (spotted k _ (c .enum-told3 .given .1)) .names)
+
+same-length-3 : tie.Need-same-length-3
+same-length-3 c = search needs
+
+returns-4 : tie.Need-returns-4
+returns-4 c =
+    let k = c .before .before .before .before .before .before .before in
+    let a = start k in
+    let m = c .before .before .mark .ensures in
+    prepared-page (memory a .pages) (memory a .rows) (memory a .blocks) (memory a .table) (a .args .c) (a .args .o) (w k) (word-is k) _ _ (spotted k _ (c .before .before .before .before .before .a .given .1)) _ _ (m .0) (m .1)
+
+same-length-4 : tie.Need-same-length-4
+same-length-4 c = search needs
+
+returns-5 : tie.Need-returns-5
+returns-5 c =
+    let k = c .before .before in
+    let a = start k in
+    prepared-outside (memory a) (a .args .c) (a .args .o) (w k) (word-is k) (spotted k _ (c .enum-told4 .given .1))
+
+pub put-prepared-spec : {M : Type 1} → statement M
+put-prepared-spec =
+    tie.close
+    (tie.spec
+    word-of-requires
+    enum-known-w
+    enum-told
+    returns
+    spot-of-requires
+    enum-told-2
+    enum-told-3
+    enum-known-a
+    mark-requires
+    enum-told-4
+    same-length
+    returns-2
+    same-length-2
+    returns-3
+    same-length-3
+    returns-4
+    same-length-4
+    returns-5)
