@@ -136,6 +136,10 @@ unsafe extern "C" {
         pages: *mut u64, pages_n: usize, rows: *mut u32, rows_n: usize, blocks: *mut u32, blocks_n: usize, table: *mut u64, table_n: usize,
         spages: *mut u64, spages_n: usize, srows: *mut u32, srows_n: usize, sblocks: *mut u32, sblocks_n: usize, stable: *mut u64, stable_n: usize,
     ) -> Answer;
+    fn bp_mark_ends_by_range(
+        lows: *const i64, lows_n: usize, highs: *const i64, highs_n: usize, marks: *mut u8, marks_n: usize,
+        pages: *const u64, pages_n: usize, rows: *const u32, rows_n: usize, blocks: *const u32, blocks_n: usize, table: *const u64, table_n: usize,
+    ) -> Answer;
 }
 
 impl Memory {
@@ -192,6 +196,17 @@ impl Memory {
             bp_merge(
                 self.pages.as_mut_ptr(), pages, self.rows.as_mut_ptr(), rows, self.blocks.as_mut_ptr(), blocks, self.table.as_mut_ptr(), table,
                 from.pages.as_mut_ptr(), spages, from.rows.as_mut_ptr(), srows, from.blocks.as_mut_ptr(), sblocks, from.table.as_mut_ptr(), stable,
+            )
+        }
+    }
+
+    /// Marks of a range list by range test: as many as the shortest of the three has.
+    pub fn bp_mark_ends_by_range(&self, lows: &[i64], highs: &[i64], marks: &mut [u8]) -> Answer {
+        let [pages, rows, blocks, table] = self.lent();
+        unsafe {
+            bp_mark_ends_by_range(
+                lows.as_ptr(), lows.len(), highs.as_ptr(), highs.len(), marks.as_mut_ptr(), marks.len(),
+                self.pages.as_ptr(), pages, self.rows.as_ptr(), rows, self.blocks.as_ptr(), blocks, self.table.as_ptr(), table,
             )
         }
     }

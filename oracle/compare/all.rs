@@ -1,5 +1,5 @@
 //! Every short sequence of calls, on one set and on two; after each of them everything is asked.
-use crate::call::{Call, Said, Sizes};
+use crate::call::{Call, Ranges, Said, Sizes};
 use crate::rust::BOUNDARIES;
 use crate::script::Script;
 
@@ -48,6 +48,13 @@ pub fn two_sets(script: &mut Script, z: Sizes, depth: u32) {
     }
 }
 
+/// Eight ranges or less between ids that rise: to the next one, of one id, back from the next one, and so on.
+fn list(ids: &[i64]) -> Ranges {
+    let ends = ids.windows(2).zip([(0, 1), (0, 0), (1, 0)].iter().cycle());
+    let ends: Vec<(i64, i64)> = ends.map(|(pair, &(low, high))| (pair[low], pair[high])).take(8).collect();
+    Ranges::new(&ends, [0; 3])
+}
+
 impl Script<'_> {
     /// Every sequence of so many calls out of `choices` after the calls of `start`, on sets of these sizes; after each everything is asked about `ids`.
     fn all_sequences(&mut self, sizes: &[Sizes], start: &[On], choices: &[On], depth: u32, ids: &[i64]) {
@@ -70,13 +77,14 @@ impl Script<'_> {
         }
     }
 
-    /// Ranges of one id, and from each of these ids, which rise, to the next one and back; records from some.
+    /// Ranges of one id, and from each of these ids, which rise, to the next one and back; a list of some; records from some.
     fn ask_ranges(&mut self, k: usize, ids: &[i64]) {
         for pair in ids.windows(2) {
             self.say(k, Call::Any(pair[0], pair[0]));
             self.say(k, Call::Any(pair[0], pair[1]));
             self.say(k, Call::Any(pair[1], pair[0]));
         }
+        self.say(k, Call::Mark(list(ids)));
         ids.iter().step_by(3).for_each(|&id| _ = self.say(k, Call::Iter(id)));
     }
 
@@ -98,6 +106,9 @@ impl Script<'_> {
             for room in [0, 1, 3, BOUNDARIES as u64] {
                 if let Said::Planned(record, _) = self.say(k, Call::Plan { slots, room }) {
                     (0..=record.partitions).for_each(|part| _ = self.say(k, Call::Part { record, room, k: part }));
+                    if slots == 2 && room == 3 {
+                        (0..=record.partitions).for_each(|part| _ = self.say(k, Call::Meet { record, room, k: part, ranges: list(ids) }));
+                    }
                 }
             }
         }

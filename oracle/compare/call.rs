@@ -10,6 +10,32 @@ pub struct Record {
     pub partitions: u64,
 }
 
+/// One to eight ranges, low and high each. Where the library is linked, lows, highs and marks are lent with so many more elements, one of them with none.
+#[derive(Clone, Copy, PartialEq, Debug)]
+pub struct Ranges {
+    all: [(i64, i64); 8],
+    count: usize,
+    pub more: [usize; 3],
+}
+
+impl Ranges {
+    pub fn new(ends: &[(i64, i64)], more: [usize; 3]) -> Ranges {
+        let mut all = [(0, 0); 8];
+        all[..ends.len()].copy_from_slice(ends);
+        Ranges { all, count: ends.len(), more }
+    }
+
+    pub fn ends(&self) -> &[(i64, i64)] {
+        &self.all[..self.count]
+    }
+}
+
+impl fmt::Display for Ranges {
+    fn fmt(&self, f: &mut fmt::Formatter) -> fmt::Result {
+        self.ends().iter().try_for_each(|(low, high)| write!(f, " {low} {high}"))
+    }
+}
+
 #[derive(Clone, Copy, PartialEq, Debug)]
 pub enum Call {
     SetUp(Sizes),
@@ -28,6 +54,7 @@ pub enum Call {
     Has,
     Chunk(i64),
     Iter(i64),
+    Mark(Ranges),
     RankUp,
     Open,
     Rank(i64),
@@ -35,6 +62,7 @@ pub enum Call {
     Total,
     Plan { slots: u64, room: u64 },
     Part { record: Record, room: u64, k: u64 },
+    Meet { record: Record, room: u64, k: u64, ranges: Ranges },
     Slots(u64),
     Bounded(i64, u64, u64),
 }
@@ -59,6 +87,7 @@ impl Call {
             Call::Has => format!("has {k}"),
             Call::Chunk(id) => format!("chunk {k} {id}"),
             Call::Iter(start) => format!("iter {k} {start}"),
+            Call::Mark(ranges) => format!("mark {k}{ranges}"),
             Call::RankUp => format!("rankup {k}"),
             Call::Open => format!("open {k}"),
             Call::Rank(id) => format!("rank {k} {id}"),
@@ -66,6 +95,7 @@ impl Call {
             Call::Total => format!("total {k}"),
             Call::Plan { slots, room } => format!("plan {k} {slots} {room}"),
             Call::Part { record: r, room, k: part } => format!("part {k} {} {} {} {room} {part}", r.total, r.slots, r.partitions),
+            Call::Meet { record: r, room, k: part, ranges } => format!("meet {k} {} {} {} {room} {part}{ranges}", r.total, r.slots, r.partitions),
             Call::Slots(b) => format!("slots {b}"),
             Call::Bounded(claim, length, per) => format!("bounded {claim} {length} {per}"),
         }
@@ -73,7 +103,7 @@ impl Call {
 
     /// Whether the call is given a set's memory at all.
     pub fn of_a_set(&self) -> bool {
-        !matches!(self, Call::Part { .. } | Call::Slots(_) | Call::Bounded(..))
+        !matches!(self, Call::Part { .. } | Call::Meet { .. } | Call::Slots(_) | Call::Bounded(..))
     }
 
     /// Whether the call speaks of both sets.
@@ -99,6 +129,7 @@ pub enum Said {
     Planned(Record, Vec<i64>),
     /// A record of iteration: its ids, the end mark, the next start.
     Listed { ids: Vec<i64>, end: bool, next: i64 },
+    Marks(Vec<bool>),
     /// What `ids` and `ranks` say of a partition.
     Part { ids: Result<(i64, Option<i64>), u64>, ranks: Result<(u64, u64), u64> },
 }
@@ -130,6 +161,7 @@ impl fmt::Display for Said {
                 write!(f, "{} {end} {next}", ids.len())?;
                 ids.iter().try_for_each(|id| write!(f, " {id}"))
             }
+            Said::Marks(marks) => write!(f, "{}", marks.iter().map(|&m| if m { "1" } else { "0" }).collect::<Vec<_>>().join(" ")),
             // as replay says it: where both answer, else what `ids` refuses with
             Said::Part { ids: Err(c), .. } | Said::Part { ranks: Err(c), .. } => write!(f, "refused {c}"),
             Said::Part { ids: Ok((low, high)), ranks: Ok((first, count)) } => {

@@ -1,7 +1,8 @@
 //! The library linked through `exports`: each call is compared at once, memory after each refusal, each plan and each union, elements past the sizes at
 //! the end.
-use crate::call::{Call, Record, Said, Sizes};
+use crate::call::{Call, Ranges, Record, Said, Sizes};
 use crate::library::{Answer, DONE, Listing, Memory};
+use crate::lists;
 use crate::locations;
 use crate::planning;
 use crate::rust::BOUNDARIES;
@@ -88,6 +89,7 @@ impl Set {
             Call::Has => truth(x.bp_has_any()),
             Call::Chunk(id) => perhaps(x.bp_chunk_of(id)),
             Call::Iter(start) => listed(x.bp_iter_from(start)),
+            Call::Mark(ranges) => lists::marked(&ranges, |lows, highs, marks| x.bp_mark_ends_by_range(lows, highs, marks)),
             Call::RankUp => ok(x.bp_into_ranked()),
             Call::Open => ok(x.bp_into_open()),
             Call::Rank(id) => number(x.bp_rank(id)),
@@ -95,6 +97,7 @@ impl Set {
             Call::Total => number(x.bp_total_count()),
             Call::Plan { slots, room } => self.plan(slots, room as usize),
             Call::Part { record, room, k } => self.part(record, room as usize, k),
+            Call::Meet { record, room, k, ranges } => self.meet(record, room as usize, k, &ranges),
             Call::Slots(b) => Said::Number(planning::slots_for_budget(b)),
             Call::Bounded(claim, length, per) => Said::Signed(planning::file_bounded_max_id(claim, length, per)),
         }
@@ -122,6 +125,13 @@ impl Set {
             intervals_agree(low, high);
         }
         Said::Part { ids, ranks }
+    }
+
+    fn meet(&self, p: Record, room: usize, k: u64, ranges: &Ranges) -> Said {
+        let before = self.bounds.clone();
+        let said = lists::marked(ranges, |lows, highs, marks| planning::mark_ends_by_partition(lows, highs, marks, p, &self.bounds[..room], k));
+        assert!(self.bounds == before, "a boundary changed");
+        said
     }
 
     /// Union with another set. `merge` is to leave its source as set-up leaves what was there.
@@ -167,6 +177,10 @@ impl Way for Linked {
     /// What the sizes need and a little more.
     fn lends(&self, z: Sizes) -> [usize; 4] {
         z.needs().map(|n| n + 3)
+    }
+
+    fn lends_lists(&self) -> bool {
+        true
     }
 
     fn begin(&mut self) -> bool {

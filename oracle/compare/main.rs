@@ -11,8 +11,11 @@ mod idset;
 mod library;
 mod linked;
 mod listed;
+mod lists;
 #[allow(dead_code, clippy::all)]
 mod locations;
+mod marking;
+mod marks;
 mod piped;
 mod planning;
 mod room;

@@ -1,6 +1,6 @@
 //! The library's entries for planning and for pure numbers (crates/exports/include/brothpillow.h).
 use crate::call::Record;
-use crate::library::Memory;
+use crate::library::{Answer, Memory};
 
 /// Kind 1: made. 2: refused.
 #[repr(C)]
@@ -39,6 +39,10 @@ unsafe extern "C" {
     fn bp_ranks(total: u64, slots: u64, partitions: u64, k: u64) -> RanksAnswer;
     fn bp_in_partition(id: i64, has_high: bool, low: i64, high: i64) -> bool;
     fn bp_range_meets(min: i64, max: i64, has_high: bool, low: i64, high: i64) -> bool;
+    fn bp_mark_ends_by_partition(
+        lows: *const i64, lows_n: usize, highs: *const i64, highs_n: usize, marks: *mut u8, marks_n: usize,
+        total: u64, slots: u64, partitions: u64, bounds: *const i64, bounds_n: usize, k: u64,
+    ) -> Answer;
     fn bp_slots_for_budget(bytes: u64) -> u64;
     fn bp_file_bounded_max_id(claim: i64, length: u64, per_byte: u64) -> i64;
 }
@@ -69,6 +73,16 @@ pub fn in_partition(id: i64, low: i64, high: Option<i64>) -> bool {
 
 pub fn range_meets(min: i64, max: i64, low: i64, high: Option<i64>) -> bool {
     unsafe { bp_range_meets(min, max, high.is_some(), low, high.unwrap_or(0)) }
+}
+
+/// Marks of a range list by partition k: as many as the shortest of the three has.
+pub fn mark_ends_by_partition(lows: &[i64], highs: &[i64], marks: &mut [u8], p: Record, bounds: &[i64], k: u64) -> Answer {
+    unsafe {
+        bp_mark_ends_by_partition(
+            lows.as_ptr(), lows.len(), highs.as_ptr(), highs.len(), marks.as_mut_ptr(), marks.len(),
+            p.total, p.slots, p.partitions, bounds.as_ptr(), bounds.len(), k,
+        )
+    }
 }
 
 pub fn slots_for_budget(bytes: u64) -> u64 {

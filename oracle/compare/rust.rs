@@ -1,7 +1,8 @@
 //! One set as the Rust has it, with document 01's refusals where the Rust has none: the answer that each call is to give.
-use crate::call::{Call, Record, Said, Sizes};
+use crate::call::{Call, Ranges, Record, Said, Sizes};
 use crate::idset::{IdSet, RankedIdSet};
 use crate::locations;
+use crate::marks::Marked;
 use crate::room::Room;
 use crate::tally::Tally;
 use crate::unions::Kind;
@@ -16,9 +17,12 @@ pub struct Side {
     set: IdSet,
     ranked: Option<RankedIdSet>,
     bounds: Vec<i64>,
-    /// Boundaries and partitions of the last plan.
-    planned: Option<(Record, Vec<(i64, Option<i64>, u64, u64)>)>,
+    /// The last plan and its partitions.
+    planned: Option<(Record, Vec<Partition>)>,
 }
+
+/// Low and high end, first rank and count.
+type Partition = (i64, Option<i64>, u64, u64);
 
 /// The Rust's set has no copy; a union into an empty one copies each chunk with its kind.
 fn copied(set: &IdSet) -> IdSet {
@@ -54,6 +58,8 @@ impl Side {
             Call::SetUp(z) => self.set_up(z),
             Call::Check => Said::Yes(self.room.is_some()),
             Call::Part { record, room, k } => self.part(record, room, k, tally),
+            Call::Meet { record, room, k, ranges } => self.meet(record, room, k, &ranges, tally),
+            Call::Mark(ranges) => self.mark(&ranges, tally),
             Call::Slots(b) => Said::Number(locations::slots_for_budget(b)),
             Call::Bounded(claim, length, per) => Said::Signed(IdSet::file_bounded_max_id(claim, length, per)),
             Call::From | Call::Merge => self.union(other, *call == Call::Merge, tally),
@@ -94,6 +100,33 @@ impl Side {
         tally.ranges[usize::from(hit)] += 1;
         tally.inverted_ranges += u64::from(min > max);
         hit
+    }
+
+    /// The Rust's range test, one record after the other.
+    fn mark(&self, ranges: &Ranges, tally: &mut Tally) -> Said {
+        let any = |&(low, high): &(i64, i64)| self.set.any_in_range(low, high);
+        let said: Marked = if self.room.is_some() { Ok(ranges.ends().iter().map(any).collect()) } else { Err(3) };
+        tally.marks.by_range(ranges, self.is_ranked(), &said);
+        said.map_or_else(Said::Refused, Said::Marks)
+    }
+
+    /// The Rust's `range_meets`, one record after the other.
+    fn meet(&self, p: Record, room: u64, k: u64, ranges: &Ranges, tally: &mut Tally) -> Said {
+        let meets = |interval| ranges.ends().iter().map(|&(low, high)| locations::range_meets(low, high, interval)).collect();
+        let said: Marked = self.ids(p, room, k).map(meets);
+        tally.marks.by_partition(ranges, &said);
+        said.map_or_else(Said::Refused, Said::Marks)
+    }
+
+    /// The least member not below an id.
+    pub fn member_from(&self, id: i64) -> Option<i64> {
+        self.set.iter_from(id).next()
+    }
+
+    /// A boundary of the last plan.
+    pub fn boundary(&self, n: usize) -> Option<i64> {
+        let count = self.last_plan()?.partitions as usize - 1;
+        (count > 0).then(|| self.bounds[n % count])
     }
 
     /// The first 64 of the Rust's iterator, and one more for the mark.
@@ -198,23 +231,41 @@ impl Side {
         }
     }
 
-    /// Of the last plan what the Rust says; of any other record what document 01 says. `ranks` is not given the boundaries.
-    fn part(&self, p: Record, room: u64, k: u64, tally: &mut Tally) -> Said {
-        let judged = |fits: bool| match () {
-            _ if p.slots == 0 || p.partitions != p.total.div_ceil(p.slots).max(1) || !fits => Err(3),
-            _ if k >= p.partitions => Err(12),
-            _ => Ok(()),
-        };
+    /// A partition as the Rust has it, where the record is the last plan's.
+    fn planned_part(&self, p: Record, k: u64) -> Option<&Partition> {
+        self.planned.as_ref().filter(|q| q.0 == p).map(|q| &q.1[k as usize])
+    }
+
+    /// Low and high end: of the last plan what the Rust says; of any other record what document 01 says.
+    fn ids(&self, p: Record, room: u64, k: u64) -> Result<(i64, Option<i64>), u64> {
+        judged(p, k, p.partitions <= room + 1)?;
         let at = k as usize;
-        let low = || if at == 0 { i64::MIN } else { self.bounds[at - 1] };
-        let high = || (k + 1 < p.partitions).then(|| self.bounds[at]);
-        let ids = judged(p.partitions <= room + 1).map(|()| (low(), high()));
-        let ranks = judged(true).map(|()| (k * p.slots, p.slots.min(p.total - k * p.slots)));
-        if let Some((_, parts)) = self.planned.as_ref().filter(|q| q.0 == p) {
-            assert!(ids.is_err() || ids == Ok((parts[at].0, parts[at].1)), "the Rust's partition has other ends");
-            assert!(ranks.is_err() || ranks == Ok((parts[at].2, parts[at].3)), "the Rust's partition has other ranks");
-        }
+        let low = if at == 0 { i64::MIN } else { self.bounds[at - 1] };
+        let ids = (low, (k + 1 < p.partitions).then(|| self.bounds[at]));
+        assert!(self.planned_part(p, k).is_none_or(|q| ids == (q.0, q.1)), "the Rust's partition has other ends");
+        Ok(ids)
+    }
+
+    /// First rank and count, for which boundaries are not given.
+    fn ranks(&self, p: Record, k: u64) -> Result<(u64, u64), u64> {
+        judged(p, k, true)?;
+        let ranks = (k * p.slots, p.slots.min(p.total - k * p.slots));
+        assert!(self.planned_part(p, k).is_none_or(|q| ranks == (q.2, q.3)), "the Rust's partition has other ranks");
+        Ok(ranks)
+    }
+
+    fn part(&self, p: Record, room: u64, k: u64, tally: &mut Tally) -> Said {
+        let (ids, ranks) = (self.ids(p, room, k), self.ranks(p, k));
         tally.ranks_alone += u64::from(ids.is_err() && ranks.is_ok());
         Said::Part { ids, ranks }
+    }
+}
+
+/// Whether a record is one, its boundaries fit, and it has such a partition.
+fn judged(p: Record, k: u64, fits: bool) -> Result<(), u64> {
+    match () {
+        _ if p.slots == 0 || p.partitions != p.total.div_ceil(p.slots).max(1) || !fits => Err(3),
+        _ if k >= p.partitions => Err(12),
+        _ => Ok(()),
     }
 }

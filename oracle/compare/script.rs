@@ -1,5 +1,5 @@
 //! Sequences of calls on two sets: each call goes to the Rust's side for its answer, then to the library for comparison.
-use crate::call::{Call, Record, Said, Sizes};
+use crate::call::{Call, Ranges, Record, Said, Sizes};
 use crate::rust::{BOUNDARIES, Side};
 use crate::tally::Tally;
 
@@ -7,6 +7,10 @@ use crate::tally::Tally;
 pub trait Way {
     /// How long the slices are that it lends, for these sizes.
     fn lends(&self, z: Sizes) -> [usize; 4];
+    /// Whether it lends lows, highs and marks as three lists, which may be of unequal length.
+    fn lends_lists(&self) -> bool {
+        false
+    }
     /// A new sequence begins. Whether it does so on memory in which there are no sets yet.
     fn begin(&mut self) -> bool;
     /// This call on set k has to answer so.
@@ -87,7 +91,7 @@ pub struct Script<'a> {
     held: bool,
     /// Where the last bursts began: with a direct entry, with an overflow entry.
     near: [u64; 2],
-    sides: [Side; 2],
+    pub sides: [Side; 2],
 }
 
 impl<'a> Script<'a> {
@@ -185,7 +189,7 @@ impl<'a> Script<'a> {
     }
 
     /// An id around an edge, or among those of the last bursts.
-    fn id(&mut self, spread: u64) -> i64 {
+    pub fn id(&mut self, spread: u64) -> i64 {
         let g = &mut self.random;
         if g.one_in(6) {
             return (g.one_of(&self.near) + g.below(3 * self.sizes.m)) as i64;
@@ -230,7 +234,7 @@ impl<'a> Script<'a> {
         };
     }
 
-    /// A plan with few or many partitions, at times with one boundary too many for the room, and all its partitions.
+    /// A plan with few or many partitions, at times with one boundary too many for the room, and all its partitions; ranges are held against one of them.
     fn plan(&mut self, k: usize) {
         let Said::Number(total) = self.say(k, Call::Total) else { return };
         let g = &mut self.random;
@@ -253,10 +257,12 @@ impl<'a> Script<'a> {
             for part in 0..=record.partitions.min(12) {
                 self.say(k, Call::Part { record, room, k: part });
             }
+            let part = self.random.below(record.partitions + 1);
+            self.meet(k, record, room, part);
         }
     }
 
-    /// A partition of the last plan's record, or of one that is a little off.
+    /// A partition of the last plan's record, or of one that is a little off, and ranges held against it.
     fn part(&mut self, k: usize) {
         let Some(mut record) = self.sides[k].last_plan() else { return };
         let g = &mut self.random;
@@ -271,6 +277,7 @@ impl<'a> Script<'a> {
         }
         let part = g.one_of(&[0, 1, record.partitions.wrapping_sub(1), record.partitions, u64::MAX]);
         self.say(k, Call::Part { record, room, k: part });
+        self.meet(k, record, room, part);
     }
 
     fn pure(&mut self) {
@@ -291,6 +298,7 @@ impl<'a> Script<'a> {
         (0..9).for_each(|id| _ = self.read(1, id));
         self.say(1, Call::Any(0, 0));
         self.say(1, Call::Iter(0));
+        self.say(1, Call::Mark(Ranges::new(&[(0, 0), (1, 0)], [0; 3])));
         self.say(1, Call::From);
     }
 
@@ -321,6 +329,7 @@ impl<'a> Script<'a> {
                 2 => _ = self.say(k, Call::Check),
                 3..=5 => self.iterate(k, id),
                 6..=13 => self.unite(k),
+                14..=17 => self.mark(k),
                 _ if self.sides[k].is_ranked() => self.ask(k, id),
                 _ => self.grow(k, id),
             }
