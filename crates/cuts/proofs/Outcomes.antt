@@ -2,11 +2,14 @@
 use mathlib.Core.Path.{_≡_, refl, sym, ap, subst, _∙_}
 use mathlib.Core.Bool.{Bool, true, false}
 use mathlib.Core.List.{List}
-use Prim.Native.Nat.{ℕ, zero, suc, _-_, _*_, _^_, _≤_, _<_}
+use Prim.Native.Nat.{ℕ, zero, suc, _+_, _-_, _*_, _^_, _≤_, _<_}
+use native.Mathlib.Nat.{mul-le-mul-right}
 use native.Mathlib.Omega.{arith}
 use lib.IntN.{ℤ}
 use lib.ListN.{length}
 use borrow.Author.Tests.{eq-eqb, ne-eqb}
+use mir.Syntax.{w64}
+use mir.Val.{Fits}
 use Rattle.sums.specs.Cuts.{size, parts}
 use Rattle.sums.proofs.Rounding.{parts-tight}
 use Rattle.layout.specs.Mem.{Mem}
@@ -20,13 +23,20 @@ use Rattle.document.specs.declared.plan.Planning.{Planning}
 use Rattle.document.specs.declared.plan.Planning.the-variants.{Made, Refused}
 use Rattle.cuts.proofs.Plans.{plan-bad, plan-open, plan-short, plan-made, plans-by}
 
--- the last boundary's rank is below the total
+-- the last boundary's rank fits
 pub last-fits : (t slots n : ℕ) → n ≡ parts t slots → t < 2 ^ 64 → (n - 1) * size slots < 2 ^ 64
 last-fits t slots n e l = go (n - 1) refl
   where
     go : (k : ℕ) → n - 1 ≡ k → k * size slots < 2 ^ 64
     go zero q = omega arith
     go (suc k) q = let h = parts-tight t slots (suc k) (omega arith) (omega arith) in omega arith
+
+-- and so does every rank asked for
+pub target-fits : (k n s g : ℕ) → k < n → g ≡ size s → n * size s < 2 ^ 64 → Fits w64 ((k + 1) * g)
+target-fits k n s g l e h =
+    let m : (k + 1) * size s ≤ n * size s = mul-le-mul-right (size s) (omega arith) in
+    let q : (k + 1) * g ≡ (k + 1) * size s = ap (λ (a : ℕ). (k + 1) * a) e in
+    record { fits = omega arith }
 
 module _ (x : Mem) (slots : ℕ) (bs : List ℤ) where
   leaves : (a : Planning) (cs : List ℤ) → planBy x slots bs ≡ cut a cs → Plans x slots bs a cs

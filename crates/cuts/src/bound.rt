@@ -1,18 +1,6 @@
-// Boundaries in a lent slice of ids, at places of any size: 0 is read and nothing is written past the end.
+// Boundaries in a lent slice of ids, at places of any size: nothing is written past the end.
 ghost use mathlib.Core.Path.{_≡_};
-ghost use lib.IntN.{pos};
-ghost use lib.ListN.{getD, set};
-
-// The boundary at i.
-pub fn at(b: &[i64], i: u64) -> i64
-    ensures { λ r. ⌜ r ≡ getD (now (b .entry)) i (pos 0) ⌝ }
-{
-    let k = i as usize;
-    if k < b.len() {
-        return b[k];
-    }
-    0
-}
+ghost use lib.ListN.{set};
 
 // The boundary v to i.
 pub fn put(b: &mut [i64], i: u64, v: i64)

@@ -1,6 +1,4 @@
-// The plan: boundaries of a ranked set, and the intervals between them.
+// The plan: boundaries of a ranked set.
 mod bound;
-pub mod interval;
 pub mod planning;
-mod round;
 mod search;

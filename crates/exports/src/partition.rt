@@ -9,10 +9,10 @@ use codes::cut;
 use codes::cut::IdsAnswer;
 use codes::cut::PlanAnswer;
 use codes::cut::RanksAnswer;
-use cuts::interval;
 use cuts::planning;
 use document::plan::Plan;
 use document::plan::Span;
+use intervals::interval;
 
 // Cuts a ranked set into partitions of at most so many slots: boundaries to the lent slice.
 #[no_mangle]

@@ -1,9 +1,9 @@
 // Standard output: the plan, or the one line that a fault gives.
-use cuts::interval;
 use document::plan::Plan;
 use document::plan::Ranks;
 use document::plan::Span;
 use document::plan::Spanned;
+use intervals::interval;
 use libc::STDOUT_FILENO;
 use numbers::Natural;
 use numbers::id;

@@ -22,8 +22,8 @@ use Rattle.layout.specs.Tests.{walked}
 use Rattle.cuts.specs.Plan.{boundsTo, Cut, cut, planBy}
 use Rattle.cuts.specs.Promise.{Plans}
 use Rattle.cuts.proofs.Plans.{plan-spare}
-use Rattle.cuts.proofs.Intervals.{plans-bounded, ids-part, span-part, ranks-part}
-use Rattle.cuts.proofs.Demand.{spans-planned}
+use Rattle.intervals.proofs.Intervals.{plans-bounded, ids-part, span-part, ranks-part}
+use Rattle.intervals.proofs.Demand.{spans-planned}
 use Rattle.promises.specs.Cuts.{Cuts}
 
 module _ (q : State) (S : ℕ) (bs : List ℤ) (a : Planning) (cs : List ℤ) (says : PlansFor q S bs a cs) (r : q .mode ≡ true) where

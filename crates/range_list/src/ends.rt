@@ -6,9 +6,9 @@ ghost use Rattle.document.specs.Spans.{idsAnswer};
 ghost use Rattle.layout.specs.Mem.{memOf};
 ghost use Rattle.range_list.specs.Marks.{EndsByRange, EndsByPartition};
 use crate::mark;
-use cuts::interval;
 use document::answer::Outcome;
 use document::plan::Plan;
+use intervals::interval;
 use numbers::order;
 
 // The shortest of three.

@@ -3,10 +3,10 @@ ghost use Rattle.document.specs.Spans.{idsAnswer};
 ghost use Rattle.layout.specs.Mem.{memOf};
 ghost use Rattle.range_list.specs.Marks.{MarksByRange, MarksByPartition};
 use crate::mark;
-use cuts::interval;
 use document::answer::Outcome;
 use document::plan::Plan;
 use document::range::Range;
+use intervals::interval;
 
 // Sets each mark by a range test of the set.
 pub fn mark_by_range(

@@ -3,11 +3,11 @@ ghost use mathlib.Core.Path.{_≡_};
 ghost use Rattle.document.specs.RangeList.{meetsAnswer};
 ghost use Rattle.layout.specs.Mem.{memOf};
 ghost use Rattle.range_list.specs.Marks.{hitBy, metBy, rangeAnswer, dueBy};
-use cuts::interval;
 use document::answer::Outcome;
 use document::answer::Truth;
 use document::plan::Spanned;
 use document::refusal;
+use intervals::interval;
 use layout_walk::walk;
 use scan::range;
 

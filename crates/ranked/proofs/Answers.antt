@@ -1,19 +1,11 @@
 -- Ranks, way by way, and what a customer reads of them. Assumes nothing.
 use mathlib.Core.Path.{_≡_, sym, ap, _∙_}
 use mathlib.Core.Bool.{Bool, true, false, not}
-use Prim.Native.Nat.{ℕ, _^_, _≤_, _<_}
-use native.Mathlib.Nat.{lt-of-lt-of-le}
-use native.Mathlib.Omega.{arith}
+use Prim.Native.Nat.{ℕ}
 use lib.IntN.{ℤ}
-use lib.Pow.{pow-mono}
 use borrow.Author.Tests.{not-true, not-false}
-use mir.Syntax.{w64}
-use mir.Val.{SFits, ofZ, toZ}
 use Rattle.numbers.specs.Ids.{splitOf}
 use Rattle.numbers.specs.declared.Split.{Split}
-use Rattle.numbers.specs.declared.Split.the-variants as split
-use Rattle.numbers.proofs.Signs.{hop}
-use Rattle.numbers.proofs.Splits.{split-lies, lies-below}
 use Rattle.layout.specs.Mem.{Mem}
 use Rattle.layout.specs.Sizes.{head, totalAt}
 use Rattle.document.specs.declared.answer.Truth.{Truth}
@@ -34,18 +26,6 @@ use Rattle.contracts.proofs.Readings.{answers}
 use Rattle.ranked.specs.declared.mode.Form.{Form}
 use Rattle.ranked.specs.declared.mode.Form.the-variants.{Ranked}
 use Rattle.ranked.proofs.Modes.{byForm, form-way}
-
--- ---- where an id lies
-
--- what `split` answered, of the id itself
-module _ (s : ℕ) (z : ℤ) (f : SFits w64 z) (r : Split) (e : r ≡ splitOf s (toZ w64 (ofZ w64 z))) where
-  pub split-is : (q : Split) → r ≡ q → q ≡ splitOf s z
-  split-is q g = sym g ∙ (e ∙ hop (splitOf s) z f)
-
-  pub chunk-small : (c o : ℕ) → 9 ≤ s → s ≤ 25 → r ≡ split.At c o → (c < 2 ^ 62) × (o < 2 ^ s)
-  chunk-small c o low high g =
-      let l = split-lies s z c o (split-is (split.At c o) g) in
-      (lt-of-lt-of-le (lies-below s z c o (omega arith) f l) (pow-mono {j = 62} (omega arith)), l .within)
 
 -- ---- by a chunk's seat
 

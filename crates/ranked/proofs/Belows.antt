@@ -18,7 +18,7 @@ use Rattle.layout.specs.declared.find.Spot.{Spot}
 use Rattle.layout.specs.declared.find.Spot.the-variants.{Row}
 use Rattle.calls.specs.Reading.{spotBy}
 use Rattle.ranks.specs.Rank.{inPage, belowAt, plus}
-use Rattle.ranked.specs.Counts.{Small}
+use Rattle.ranked.specs.Small.{Small}
 use Rattle.layout.proofs.Lent.{span}
 use Rattle.calls.proofs.Spots.{InRows}
 

@@ -20,7 +20,7 @@ use Rattle.document.specs.declared.answer.Outcome.{Outcome}
 use Rattle.document.specs.declared.answer.Outcome.the-variants.{Done, Refused}
 use Rattle.ranks.specs.Form.{prefixed, marked, blockedTo, toRanked, toOpen, rankUpBy, openBy}
 use Rattle.ranked.specs.Modes.{formOf}
-use Rattle.ranked.specs.Counts.{entrySize, Inside, Places}
+use Rattle.rank_counts.specs.Counts.{entrySize, Inside, Places}
 use Rattle.document.specs.Calls.{rank-up, leave, that}
 use Rattle.contracts.specs.Runs.{byOutcome}
 use Rattle.contracts.specs.Does.{Does}

@@ -1,2 +1,2 @@
 pub mod Modes
-pub mod Counts
+pub mod Small

@@ -7,7 +7,7 @@ ghost use Rattle.layout.specs.Mem.{mem, memOf};
 ghost use Rattle.layout.specs.Sizes.{headerAt};
 ghost use Rattle.calls.specs.Reading.{spotBy};
 ghost use Rattle.ranks.specs.Rank.{inPage, belowAt, plus};
-ghost use Rattle.ranked.specs.Counts.{Small};
+ghost use Rattle.ranked.specs.Small.{Small};
 use dense::block;
 use document::answer::Amount;
 use document::refusal;

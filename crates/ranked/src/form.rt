@@ -5,15 +5,15 @@ ghost use Rattle.layout.specs.Tests.{Walked};
 ghost use Rattle.ranks.specs.Form.{toRanked, toOpen};
 ghost use Rattle.document.specs.Calls.{rank-up, leave, that};
 ghost use Rattle.contracts.specs.Does.{Does};
-use crate::blocks;
 use crate::mode;
 use crate::mode::Form;
-use crate::prefixes;
 use document::answer::Outcome;
 use document::refusal;
 use document::sizes::Sizes;
 use layout::head;
 use layout_writes::setup;
+use rank_counts::blocks;
+use rank_counts::prefixes;
 
 // Counts every block, then every entry.
 fn count_all(h: Sizes, pages: &[u64], rows: &[u32], blocks: &mut [u32], table: &mut [u64])

@@ -1,7 +1,5 @@
 // The ranked form: ranking, leaving it, ranks. Only what is touched is tested; a call that writes walks the table first.
-mod blocks;
 mod chunk;
 pub mod form;
 mod mode;
-mod prefixes;
 pub mod rank;

@@ -6,8 +6,8 @@ use borrow.Author.Needs.{needs}
 use lib.ListN.{length}
 use Rattle.layout.specs.Mem.{mem, memOf}
 use Rattle.cuts.specs.Plan.{boundsTo}
-use Rattle.cuts.proofs.Signs.{read}
-use Rattle.cuts.proofs.Rounded.{target-fits}
+use Rattle.intervals.proofs.Signs.{read}
+use Rattle.cuts.proofs.Outcomes.{target-fits}
 use Rattle.cuts.proofs.Plans.{bounds-zero, bounds-turn, bounds-length}
 use Rattle.cuts.proofs.planning.fill.Statement.{statement}
 use Rattle.cuts.proofs.planning.fill.Tie as tie

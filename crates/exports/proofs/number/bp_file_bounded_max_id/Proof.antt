@@ -3,7 +3,7 @@ use mathlib.Core.Path.{_∙_, ap}
 use lib.IntN.{ℤ}
 use mir.Facts.{toZ-ofZ}
 use Rattle.numbers.specs.Budget.{fileBoundedMaxId}
-use Rattle.cuts.proofs.Signs.{read}
+use Rattle.intervals.proofs.Signs.{read}
 use borrow.Author.Needs.{needs}
 use Rattle.exports.proofs.number.bp_file_bounded_max_id.Statement.{statement}
 use Rattle.exports.proofs.number.bp_file_bounded_max_id.Tie as tie

@@ -5,7 +5,7 @@ use native.Mathlib.Omega.{arith}
 use lib.ListN.{length, take}
 use Rattle.document.specs.RangeList.{marksIn}
 use Rattle.document.specs.declared.plan.Spanned.{Spanned}
-use Rattle.cuts.proofs.Signs.{read}
+use Rattle.intervals.proofs.Signs.{read}
 use Rattle.range_list.specs.Marks.{metBy, EndsByPartition}
 use Rattle.range_list.proofs.Columns.{There, ends-none, ends-length, ends-turn}
 use Rattle.range_list.proofs.Outcomes.{due-there, ends-by-partition}

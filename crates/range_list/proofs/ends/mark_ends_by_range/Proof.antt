@@ -4,7 +4,7 @@ use Prim.Native.Nat.{_-_, _≤_}
 use native.Mathlib.Omega.{arith}
 use lib.ListN.{length, take}
 use Rattle.document.specs.RangeList.{marksIn}
-use Rattle.cuts.proofs.Signs.{read}
+use Rattle.intervals.proofs.Signs.{read}
 use Rattle.layout.specs.Mem.{mem, memOf}
 use Rattle.range_list.specs.Marks.{hitBy}
 use Rattle.range_list.proofs.Columns.{There, ends-none, ends-length, ends-turn}

@@ -74,10 +74,10 @@ use Rattle.range_list.proofs.mark.met as met
 use Rattle.range_list.proofs.mark.met.Symbol as met-def
 use Rattle.range_list.proofs.mark.met.Symbol.{name as #met}
 use Rattle.range_list.proofs.mark.met.Met as met-thm
-use Rattle.cuts.proofs.interval.ids as ids
-use Rattle.cuts.proofs.interval.ids.Symbol as ids-def
-use Rattle.cuts.proofs.interval.ids.Symbol.{name as #ids}
-use Rattle.cuts.proofs.interval.ids.Met as ids-thm
+use Rattle.intervals.proofs.interval.ids as ids
+use Rattle.intervals.proofs.interval.ids.Symbol as ids-def
+use Rattle.intervals.proofs.interval.ids.Symbol.{name as #ids}
+use Rattle.intervals.proofs.interval.ids.Met as ids-thm
 use Rattle.range_list.proofs.list.mark_by_partition.Key.{name as #mark-by-partition}
 use Rattle.range_list.proofs.list.mark_by_partition as marking
 use Rattle.range_list.proofs.list.mark_by_partition.Statement as stated
@@ -262,7 +262,7 @@ mark-by-partition-spec 𝓤 H 𝓜 𝓖 𝓡 =
     entered 𝓤 H (tripleOf 𝓤 H (𝓖 .A) marking.signature (marking.spec 𝓤 H (𝓖 .A) (𝓜 .mem) (𝓡 .run)))
     (tables 𝓤 H 𝓜 𝓡 code.env .C) (tables 𝓤 H 𝓜 𝓡 code.env .Λ) #mark-by-partition code.function (code.unfolded 𝓤 H 𝓜 𝓡)
     (marks-meet 𝓤 H (𝓖 .A) (givenOf 𝓤 H 𝓜 𝓖) (𝓜 .mem) (𝓡 .run) (tablesOf 𝓤 H 𝓜 (tables 𝓤 H 𝓜 𝓡 code.env))
-    (cited 𝓤 H (Ids 𝓤 H (𝓖 .A) (𝓜 .mem) (𝓡 .run)) 𝓜 𝓡 code.env #ids ids-def.routine code.calls-cuts·interval·ids (ids-thm.met 𝓤 H 𝓜 𝓖 𝓡))
+    (cited 𝓤 H (Ids 𝓤 H (𝓖 .A) (𝓜 .mem) (𝓡 .run)) 𝓜 𝓡 code.env #ids ids-def.routine code.calls-intervals·interval·ids (ids-thm.met 𝓤 H 𝓜 𝓖 𝓡))
     (cited 𝓤 H (Answer 𝓤 H (𝓖 .A) (𝓜 .mem) (𝓡 .run)) 𝓜 𝓡 code.env #answer answer-def.routine code.calls-range-list·mark·answer (answer-thm.met 𝓤 H 𝓜 𝓖 𝓡))
     (cited 𝓤 H (Due 𝓤 H (𝓖 .A) (𝓜 .mem) (𝓡 .run)) 𝓜 𝓡 code.env #due due-def.routine code.calls-range-list·mark·due (due-thm.met 𝓤 H 𝓜 𝓖 𝓡))
     (cited 𝓤 H (Met 𝓤 H (𝓖 .A) (𝓜 .mem) (𝓡 .run)) 𝓜 𝓡 code.env #met met-def.routine code.calls-range-list·mark·met (met-thm.met 𝓤 H 𝓜 𝓖 𝓡)))

@@ -1,6 +1,6 @@
 -- Blocks first, then entries by their pages' last blocks. Assumes nothing.
 use Rattle.layout.specs.Mem.{Mem, memOf}
-use Rattle.ranked.proofs.Counting.{all-told}
+use Rattle.rank_counts.proofs.Counting.{all-told}
 use Rattle.ranked.proofs.Forms.{walked-over, walked-places, all-counted}
 use borrow.Author.Needs.{needs}
 use Rattle.ranked.proofs.form.count_all.Statement.{statement}

@@ -1,0 +1,4 @@
+pub mod Signs
+pub mod Rounded
+pub mod Intervals
+pub mod Demand
