@@ -7,8 +7,5 @@ pub mod Cutting
 pub mod Listings
 pub mod Unions
 pub mod Cases
-pub mod Ensures
-pub mod Contracts
-pub mod Entries
 pub mod Theorems
 pub mod Ranges

@@ -27,7 +27,7 @@ use Rattle.contracts.specs.Does.{Does, Answers, SetsUp, Joins}
 use Rattle.cuts.specs.Promise.{Plans}
 use Rattle.range_list.specs.Marks.{EndsByRange, EndsByPartition}
 use Rattle.codes.specs.Codes.{Coded, outcomeCode, truthCode, amountCode, perhapsCode, planningCode, spannedCode, ranksCode, planIn, spanIn}
-use Rattle.promises.proofs.Ensures.{four, two, Ensures}
+use Rattle.ties.proofs.Ensures.{four, two, Ensures}
 use Rattle.exports.proofs.change.bp_set_up as bp_set_up
 use Rattle.exports.proofs.change.bp_set_if_new as bp_set_if_new
 use Rattle.exports.proofs.change.bp_set as bp_set

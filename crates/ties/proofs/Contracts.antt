@@ -21,7 +21,7 @@ use Rattle.document.specs.Union as union
 use Rattle.contracts.specs.Does.{Does, Answers, SetsUp, Joins}
 use Rattle.cuts.specs.Promise.{Plans}
 use Rattle.range_list.specs.Marks.{MarksByRange, MarksByPartition, EndsByRange, EndsByPartition}
-use Rattle.promises.proofs.Ensures.{four, two, Ensures}
+use Rattle.ties.proofs.Ensures.{four, two, Ensures}
 use Rattle.idset.proofs.setup.set_up as set_up
 use Rattle.inserts.proofs.insert.set_if_new as set_if_new
 use Rattle.inserts.proofs.insert.set as set

@@ -1,0 +1,3 @@
+pub mod Ensures
+pub mod Contracts
+pub mod Entries
