@@ -1,7 +1,7 @@
 -- Each test decides its sentence of the rule, and with the walk they decide `Follows`. Assumes nothing.
 use mathlib.Core.Path.{_≡_, refl, sym, _∙_, ap, ap₂, subst}
 use mathlib.Core.List.{List}
-use mathlib.Core.Bool.{Bool, true, false, _&&_}
+use mathlib.Core.Bool.{Bool, true, false, _&&_, and-true, and-false}
 use Prim.Native.Nat.{ℕ, _+_, _-_, _*_, _≤_, _<_}
 use native.Mathlib.Omega.{arith}
 use lib.ListN.{getD}
@@ -25,7 +25,7 @@ use Rattle.layout_laws.proofs.Walked.{laid-walked}
 use Rattle.document.specs.declared.sizes.Sizes.{Sizes}
 use Rattle.layout.specs.declared.place.Place.{Place}
 use Rattle.layout.specs.declared.place.Place.the-variants.{Absent, Sparse, Dense}
-use Rattle.fullcheck.specs.Check.{WalkShown, offsetIs, listIs, listAt, rowIs, freeRowIs, freePageIs, sizeOfEntry, prefixIs, totalIs, blockIs, pageBlocks, rowsAre, ranksAre, restIs, checked}
+use Rattle.fullcheck.specs.Check.{WalkShown, BlocksShown, offsetIs, listIs, listAt, rowIs, freeRowIs, freePageIs, sizeOfEntry, prefixIs, totalIs, blockIs, pageBlocks, rowsAre, ranksAre, restIs, checked}
 
 -- ---- rows
 
@@ -118,6 +118,19 @@ module _ (x : Mem) (h : Sizes) where
   pub rest-passes : (b d e f : Bool) → b ≡ rowsAre h (x .rows) (x .table) → d ≡ allTo (freePageIs h (x .pages) (x .table)) (h .p) → e ≡ ranksAre h (x .pages) (x .table) → f ≡ allTo (pageBlocks h (x .pages) (x .blocks) (rankedAt (x .table))) (h .p) → (b && d && e && f) ≡ restIs h x
   unfolding restIs
   rest-passes b d e f q r s t = ap₂ _&&_ (ap₂ _&&_ (ap₂ _&&_ q r) s) t
+
+  -- the test of the block counts, asked first
+  module _ {f : Bool} (t : f ≡ allTo (pageBlocks h (x .pages) (x .blocks) (rankedAt (x .table))) (h .p)) where
+    pub blocks-no : f ≡ false → false ≡ restIs h x
+    blocks-no n =
+        let others = rowsAre h (x .rows) (x .table) && allTo (freePageIs h (x .pages) (x .table)) (h .p) && ranksAre h (x .pages) (x .table) in
+        sym (and-false others) ∙ rest-passes _ _ _ false refl refl refl (sym n ∙ t)
+
+    pub blocks-yes : f ≡ true → (b d e : Bool) → b ≡ rowsAre h (x .rows) (x .table) → d ≡ allTo (freePageIs h (x .pages) (x .table)) (h .p) → e ≡ ranksAre h (x .pages) (x .table) → (b && d && e) ≡ restIs h x
+    blocks-yes y b d e q r s = sym (and-true (b && d && e)) ∙ rest-passes b d e true q r s (sym y ∙ t)
+
+    pub blocks-shown : Walked x h → f ≡ true → BlocksShown h (x .pages) (x .blocks) (rankedAt (x .table))
+    blocks-shown w y = record { in-pages = w .room .in-pages; in-blocks = w .room .in-blocks; right = sym t ∙ y }
 
 -- ---- the whole check
 

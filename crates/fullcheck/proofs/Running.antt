@@ -4,11 +4,12 @@ use mathlib.Core.List.{List}
 use mathlib.Core.Bool.{Bool, true, false, _&&_}
 use Prim.Native.Nat.{ℕ, _+_, _-_, _*_, _≤_, _<_}
 use native.Mathlib.Omega.{arith}
-use lib.ListN.{length, getD, take, drop}
+use lib.ListN.{length, getD, take, drop, length-take, length-drop}
 use lib.Dec.{eqb}
 use Rattle.sums.specs.Sums.{sumTo}
 use Rattle.sums.specs.Rules.{allTo}
 use Rattle.sums.proofs.Sums.{sum-zero, sum-next}
+use Rattle.sums.proofs.Rules.{all-of, eqb-of, bool-of}
 use Rattle.numbers.proofs.Powers.{powers}
 use Rattle.dense.specs.Bits.{bitsTo}
 use Rattle.dense.proofs.Counts.{bits-zero, bits-le}
@@ -22,8 +23,8 @@ use Rattle.layout.specs.Tests.{rankedAt}
 use Rattle.layout_laws.proofs.Walked.{size-small}
 use Rattle.document.specs.declared.sizes.Sizes.{Sizes}
 use Rattle.layout.specs.declared.place.Place.{Place}
-use Rattle.fullcheck.specs.Check.{WalkShown, sizeOfEntry, keptIf, prefixIs, totalIs, ranksAre, blockIs, pageBlocks}
-use Rattle.fullcheck.proofs.Ways.{part-length, part-is}
+use Rattle.fullcheck.specs.Check.{WalkShown, BlocksShown, sizeOfEntry, keptIf, prefixIs, totalIs, ranksAre, blockIs, pageBlocks}
+use Rattle.fullcheck.proofs.Ways.{part-inside}
 
 -- ---- what is kept of a count
 
@@ -46,11 +47,6 @@ kept-le true a n l = l
 kept-le false a n l = omega arith
 
 -- ---- members
-
-pub page-counted : (h : Sizes) (pages : List ℕ) (a w p : ℕ) {k : ℕ} → InRange h → a ≡ p * wide h → w ≡ wide h → a + w ≤ length pages → k ≡ bitsTo (take (a + w - a) (drop a pages)) (64 * length (take (a + w - a) (drop a pages))) → k ≡ bitsTo (pagePart h pages p) (top h)
-page-counted h pages a w p i e f l d =
-    let n : 64 * length (take (a + w - a) (drop a pages)) ≡ top h = omega (arith, part-length pages a w l, powers (h .s) (i .s-low) (i .s-high)) in
-    d ∙ ap₂ bitsTo (part-is pages a w (p * wide h) (wide h) e f) n
 
 module _ (h : Sizes) (pages t : List ℕ) (r : Bool) (e : ℕ) where
   -- an entry's place q, found to be p
@@ -99,9 +95,36 @@ module _ (page : List ℕ) (r : Bool) where
   unfolding blockIs
   block-passes blocks a b m n s p q w = ap₂ eqb (p ∙ q) w
 
--- page p, read from place a of the pool on, its counts from d on
-pub blocks-pass : (h : Sizes) (pages blocks : List ℕ) (r : Bool) (a w p d n : ℕ) {b : Bool} → a ≡ p * wide h → w ≡ wide h → d ≡ p * blocksOf h → n ≡ blocksOf h → b ≡ allTo (blockIs (take (a + w - a) (drop a pages)) blocks r d) n → b ≡ pageBlocks h pages blocks r p
-unfolding pageBlocks
-blocks-pass h pages blocks r a w p d n e f g i q =
-    q ∙ (ap₂ (λ (page : List ℕ) (k : ℕ). allTo (blockIs page blocks r k) n) (part-is pages a w (p * wide h) (wide h) e f) g
-    ∙ ap (allTo (blockIs (pagePart h pages p) blocks r (p * blocksOf h))) i)
+-- the counts of a page, n from a on, where they are right: the last one, read as m, and what the last block adds
+module _ (page blocks : List ℕ) (a n : ℕ) (right : allTo (blockIs page blocks true a) n ≡ true) where
+  count-at : (b : ℕ) → b < n → getD blocks (a + b) 0 ≡ bitsTo page (512 * b)
+  unfolding blockIs
+  count-at = all-of (blockIs page blocks true a) n (λ b l. eqb-of (getD blocks (a + b) 0) (bitsTo page (512 * b))) .sound right
+
+  pub members-are : (m w k : ℕ) → 1 ≤ n → w ≡ m → m ≡ getD blocks (a + (n - 1)) 0 → k ≡ keptIf true (bitsTo (take 8 (drop (8 * (n - 1)) page)) 512) → w + k ≡ bitsTo page (512 * n)
+  members-are m w k s p q r =
+      let e : 512 * (n - 1 + 1) ≡ 512 * n = omega arith in
+      block-more page true (n - 1) w k (p ∙ q ∙ count-at (n - 1) (omega arith)) r ∙ ap (bitsTo page) e
+
+-- page p, read as q, and its n counts from d on
+module _ (h : Sizes) (pages blocks : List ℕ) (p : ℕ) {q : List ℕ} {d n : ℕ} (e : q ≡ pagePart h pages p) (f : d ≡ p * blocksOf h) (g : n ≡ blocksOf h) where
+  pub blocks-pass : (r : Bool) → allTo (blockIs q blocks r d) n ≡ pageBlocks h pages blocks r p
+  unfolding pageBlocks
+  blocks-pass r =
+      ap₂ (λ (page : List ℕ) (k : ℕ). allTo (blockIs page blocks r k) n) e f ∙ ap (allTo (blockIs (pagePart h pages p) blocks r (p * blocksOf h))) g
+
+  pub blocks-right : BlocksShown h pages blocks true → p < h .p → allTo (blockIs q blocks true d) n ≡ true
+  blocks-right s l = blocks-pass true ∙ all-of (pageBlocks h pages blocks true) (h .p) (λ k m. bool-of (pageBlocks h pages blocks true k)) .sound (s .right) p l
+
+  module _ (i : InRange h) where
+    pub blocks-room : p < h .p → h .p * wide h ≤ length pages → h .p * blocksOf h ≤ length blocks → (8 * n ≤ length q) × (d + n ≤ length blocks) × (1 ≤ n) × (n ≤ 65536)
+    blocks-room l s t =
+        let w = powers (h .s) (i .s-low) (i .s-high) in
+        let m = part-inside p (h .p) (wide h) (length pages) l s in
+        let o = part-inside p (h .p) (blocksOf h) (length blocks) l t in
+        let k : length (pagePart h pages p) ≡ wide h = simp (length-take, length-drop) (omega arith) in
+        let j = ap length e in
+        (omega arith, omega arith, omega arith, omega arith)
+
+    pub members-pass : {k : ℕ} → k ≡ bitsTo q (512 * n) → k ≡ bitsTo (pagePart h pages p) (top h)
+    members-pass z = let m : 512 * n ≡ top h = omega (arith, powers (h .s) (i .s-low) (i .s-high)) in z ∙ ap₂ bitsTo e m

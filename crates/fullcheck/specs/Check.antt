@@ -1,4 +1,5 @@
 -- The layout's rules past the walk over the table (10, 11, 12, 14, 15, 16), each as a test of one place over its range, in the order of docs/LAYOUT.md.
+use mathlib.Core.Path.{_≡_}
 use Prim.Native.Nat.{ℕ, _+_, _*_, _-_, _≤_, _<_}
 use mathlib.Core.List.{List}
 use mathlib.Core.Bool.{Bool, true, cond, not, _&&_, _||_}
@@ -68,6 +69,12 @@ blockIs page blocks ranked a b = eqb (getD blocks (a + b) 0) (keptIf ranked (bit
 
 unfoldable pub pageBlocks : Sizes → List ℕ → List ℕ → Bool → ℕ → Bool
 pageBlocks h pages blocks ranked p = allTo (blockIs (pagePart h pages p) blocks ranked (p * blocksOf h)) (blocksOf h)
+
+-- what the test of the block counts has shown of pages and counts
+pub record BlocksShown (h : Sizes) (pages blocks : List ℕ) (ranked : Bool) : Type 0 where
+  pub in-pages : h .p * wide h ≤ length pages
+  pub in-blocks : h .p * blocksOf h ≤ length blocks
+  pub right : allTo (pageBlocks h pages blocks ranked) (h .p) ≡ true
 
 -- what is left of the rule, by slice
 unfoldable pub rowsAre : Sizes → List ℕ → List ℕ → Bool

@@ -1,57 +1,42 @@
 // Ranks: the prefix of each entry and the total, against a running sum of members. An open set keeps none, and counts nothing.
 ghost use mathlib.Core.Path.{_≡_};
-ghost use Prim.Native.Nat.{_*_, _≤_, _<_};
-ghost use lib.ListN.{length};
-ghost use Rattle.dense.specs.Bits.{bitsTo};
-ghost use Rattle.document.specs.Sizes.{InRange, top};
-ghost use Rattle.layout.specs.Sizes.{wide};
-ghost use Rattle.layout.specs.Places.{pagePart};
+ghost use mathlib.Core.Bool.{true};
+ghost use Prim.Native.Nat.{_<_};
 ghost use Rattle.layout.specs.Entries.{entries};
-ghost use Rattle.fullcheck.specs.Check.{WalkShown, sizeOfEntry, keptIf, ranksAre};
-use dense::words;
+ghost use Rattle.layout.specs.Tests.{rankedAt};
+ghost use Rattle.fullcheck.specs.Check.{WalkShown, BlocksShown, sizeOfEntry, keptIf, ranksAre};
+use crate::blocks;
 use document::sizes::Sizes;
 use layout::entry;
 use layout::head;
 use layout::place::Place;
-use numbers::power;
-
-// Members of page p.
-pub fn page_size(pages: &[u64], h: Sizes, p: u64) -> u64
-    requires { ⌜ InRange h × (p < h .p) × (h .p * wide h ≤ length (now pages)) ⌝ }
-    ensures { λ k. ⌜ k ≡ bitsTo (pagePart h (now (pages .entry)) p) (top h) ⌝ }
-{
-    let a = head::page_at(h, p);
-    let lo = a as usize;
-    let hi = (a + power::pow2(h.s - 6)) as usize;
-    words::count(&pages[lo..hi])
-}
 
 // Members of entry e.
-pub fn size_at(pages: &[u64], table: &[u64], h: Sizes, e: u64) -> u64
-    requires { ⌜ WalkShown h (now table) × (h .p * wide h ≤ length (now pages)) × (e < entries h (now table)) ⌝ }
+pub fn size_at(pages: &[u64], blocks: &[u32], table: &[u64], h: Sizes, e: u64) -> u64
+    requires { ⌜ WalkShown h (now table) × BlocksShown h (now pages) (now blocks) true × (e < entries h (now table)) ⌝ }
     ensures { λ k. ⌜ k ≡ sizeOfEntry h (now (pages .entry)) (now (table .entry)) e ⌝ }
 {
     match entry::place_at(table, h, e) {
         Place::Absent => 0,
         Place::Sparse(_, l) => l,
-        Place::Dense(p) => page_size(pages, h, p),
+        Place::Dense(p) => blocks::members_in(pages, blocks, h, p),
     }
 }
 
 // What entry e adds to the running sum.
-pub fn size_if(pages: &[u64], table: &[u64], h: Sizes, ranked: bool, e: u64) -> u64
-    requires { ⌜ WalkShown h (now table) × (h .p * wide h ≤ length (now pages)) × (e < entries h (now table)) ⌝ }
+pub fn size_if(pages: &[u64], blocks: &[u32], table: &[u64], h: Sizes, ranked: bool, e: u64) -> u64
+    requires { ⌜ WalkShown h (now table) × BlocksShown h (now pages) (now blocks) ranked × (e < entries h (now table)) ⌝ }
     ensures { λ k. ⌜ k ≡ keptIf ranked (sizeOfEntry h (now (pages .entry)) (now (table .entry)) e) ⌝ }
 {
     if !ranked {
         return 0;
     }
-    size_at(pages, table, h, e)
+    size_at(pages, blocks, table, h, e)
 }
 
 // Sentences 14 and 15.
-pub fn ranks_are(pages: &[u64], table: &[u64], h: Sizes) -> bool
-    requires { ⌜ WalkShown h (now table) × (h .p * wide h ≤ length (now pages)) ⌝ }
+pub fn ranks_are(pages: &[u64], blocks: &[u32], table: &[u64], h: Sizes) -> bool
+    requires { ⌜ WalkShown h (now table) × BlocksShown h (now pages) (now blocks) (rankedAt (now table)) ⌝ }
     ensures { λ b. ⌜ b ≡ ranksAre h (now (pages .entry)) (now (table .entry)) ⌝ }
 {
     let ranked = head::mode(table) == head::RANKED;
@@ -61,7 +46,7 @@ pub fn ranks_are(pages: &[u64], table: &[u64], h: Sizes) -> bool
     let mut e: u64 = 0;
     while e < n {
         ok = ok & (entry::prefix_at(table, h, e) == sum);
-        sum += size_if(pages, table, h, ranked, e);
+        sum += size_if(pages, blocks, table, h, ranked, e);
         e += 1;
     }
     ok & (head::total(table) == sum)

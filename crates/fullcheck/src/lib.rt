@@ -15,15 +15,17 @@ use document::sizes::Sizes;
 use layout::head;
 use layout_walk::walk;
 
-// What the walk over the table leaves of the rule, sentence by sentence.
+// What the walk over the table leaves of the rule. Block counts come first: where they are right, members are read from them, and no word is counted twice.
 fn rest_is(pages: &[u64], rows: &[u32], blocks: &[u32], table: &[u64], h: Sizes) -> bool
     requires { ⌜ Walked (memOf pages rows blocks table) h ⌝ }
     ensures { λ b. ⌜ b ≡ restIs h (memOf (pages .entry) (rows .entry) (blocks .entry) (table .entry)) ⌝ }
 {
+    if !blocks::blocks_are(pages, blocks, table, h) {
+        return false;
+    }
     rows::rows_are(rows, table, h)
         & pages::free_pages(pages, table, h)
-        & counts::ranks_are(pages, table, h)
-        & blocks::blocks_are(pages, blocks, table, h)
+        & counts::ranks_are(pages, blocks, table, h)
 }
 
 // Yes exactly when memory follows the layout.

@@ -1,16 +1,27 @@
-// Pages: the free ones hold zeros.
+// Pages: each as a part of the pool, and the free ones, which hold zeros.
 ghost use mathlib.Core.Path.{_≡_};
 ghost use Prim.Native.Nat.{_*_, _≤_, _<_};
 ghost use lib.ListN.{length};
 ghost use Rattle.sums.specs.Rules.{allTo};
 ghost use Rattle.document.specs.Sizes.{InRange};
 ghost use Rattle.layout.specs.Sizes.{wide};
+ghost use Rattle.layout.specs.Places.{pagePart};
 ghost use Rattle.fullcheck.specs.Check.{freePageIs};
 use document::sizes::Sizes;
 use layout::entry;
 use layout::head;
 use layout_walk::zeros;
 use numbers::power;
+
+// Page p of the pool.
+pub fn part(pages: &[u64], h: Sizes, p: u64) -> &[u64]
+    requires { ⌜ InRange h × (p < h .p) × (h .p * wide h ≤ length (now pages)) ⌝ }
+    ensures { λ q. ⌜ now q ≡ pagePart h (now (pages .entry)) p ⌝ }
+{
+    let a = head::page_at(h, p) as usize;
+    let e = a + power::pow2(h.s - 6) as usize;
+    &pages[a..e]
+}
 
 // A page without an owner holds zeros.
 pub fn free_page(pages: &[u64], table: &[u64], h: Sizes, p: u64) -> bool

@@ -10,7 +10,7 @@ use Rattle.fullcheck.proofs.counts.size_at.Statement.{statement}
 use Rattle.fullcheck.proofs.counts.size_at.Tie as tie
 
 place-at-requires : tie.Need-place-at-requires
-place-at-requires c κs = (c .before .before .pre .0 .sizes, omega (arith, c .before .before .pre .0))
+place-at-requires c κs = (c .before .before .before .pre .0 .sizes, omega (arith, c .before .before .before .pre .0))
 
 enum-told : tie.Need-enum-told
 enum-told c = search needs
@@ -21,8 +21,8 @@ enum-known-l c = search needs
 enum-known-p : tie.Need-enum-known-p
 enum-known-p c = search needs
 
-page-size-requires : tie.Need-page-size-requires
-page-size-requires c κs = let o = place-owned _ _ _ (c .before .before .before .place-at .ensures) (c .before .before .before .before .before .before .pre .0) (c .before .before .before .before .before .before .pre .2) (Dense _) (c .before .p .given .1) in (c .before .before .before .before .before .before .pre .0 .sizes, o .there, c .before .before .before .before .before .before .pre .1)
+members-in-requires : tie.Need-members-in-requires
+members-in-requires c κs = let s = c .before .before .before .before .before .before .before in let o = place-owned _ _ _ (c .before .before .before .place-at .ensures) (s .pre .0) (s .pre .2) (Dense _) (c .before .p .given .1) in (s .pre .0 .sizes, o .there, s .pre .1)
 
 returns : tie.Need-returns
 returns c = size-passes _ _ _ true _ (c .before .before .place-at .ensures) Absent (c .enum-told .given .1) refl
@@ -31,7 +31,7 @@ returns-2 : tie.Need-returns-2
 returns-2 c = size-passes _ _ _ true _ (c .before .before .before .place-at .ensures) (Sparse _ _) (c .before .l .given .1) refl
 
 returns-3 : tie.Need-returns-3
-returns-3 c = size-passes _ _ _ true _ (c .before .before .before .before .place-at .ensures) (Dense _) (c .before .before .p .given .1) (c .page-size .ensures)
+returns-3 c = size-passes _ _ _ true _ (c .before .before .before .before .place-at .ensures) (Dense _) (c .before .before .p .given .1) (c .members-in .ensures)
 
 pub size-at-spec : {M : Type 1} → statement M
 size-at-spec =
@@ -41,7 +41,7 @@ size-at-spec =
     enum-told
     enum-known-l
     enum-known-p
-    page-size-requires
+    members-in-requires
     returns
     returns-2
     returns-3)
