@@ -41,7 +41,7 @@ use Rattle.steps.specs.Effects.{EntryFor}
 use Rattle.steps.proofs.Spares.{room-for, rowed-spare, paged-spare}
 use Rattle.calls.proofs.Places.{row-in, page-in}
 use Rattle.calls.specs.Reading.{shiftOk}
-use Rattle.calls.specs.Insert.{freeRow, freePage, startChunk, turnDense, intoRow, intoPage, intoPlace, intoDense, inside, byWord, insertPlan, preparedPlan}
+use Rattle.calls.specs.Insert.{freeRow, freePage, startChunk, turnDense, intoRow, markPlan, intoPlace, intoDense, insideSlices, byWord, insertPlan, preparedPlan}
 use Rattle.calls.specs.Insert.{Told, told, turned, acted, ifOpen, insertAt, insertBy, preparedAt, preparedBy}
 use Rattle.calls.specs.declared.plan.Plan.{Plan}
 use Rattle.calls.specs.declared.plan.Plan.the-variants.{Refuse, Known, Mark, Enter, Begin, Turn}
@@ -171,7 +171,7 @@ module _ (x : Mem) (c : ℕ) where
       }))
 
 module _ (x : Mem) (c o : ℕ) where
-  row-within : (w r l : ℕ) → wordIn (x .table) c ≡ word.Is w → decoded w ≡ Sparse r l → inside x (Sparse r l) ≡ true
+  row-within : (w r l : ℕ) → wordIn (x .table) c ≡ word.Is w → decoded w ≡ Sparse r l → insideSlices x (Sparse r l) ≡ true
       → (s : slot.Place) → spotIn (rowPart (head x) (x .rows) r) l o ≡ s → Within x c (intoRow x r l s)
   row-within w r l is e good (Found i) q = tt
   row-within w r l is e good (Free k) q = go (ltb l (head x .m)) refl
@@ -186,26 +186,26 @@ module _ (x : Mem) (c o : ℕ) where
           }
       go false f = turn-within x c w r l is (some-word w r l e)
 
-  page-within : (p : ℕ) → inside x (Dense p) ≡ true → Within x c (intoPage x o p)
+  page-within : (p : ℕ) → insideSlices x (Dense p) ≡ true → Within x c (markPlan x o p)
   page-within p good = go (isSet (pagePart (head x) (x .pages) p) o)
     where
       go : (b : Bool) → Within x c (cond b Known (Mark p))
       go true = tt
       go false = record { there = page-in x p good .there; inside = page-in x p good .fits }
 
-  place-within : (w : ℕ) → wordIn (x .table) c ≡ word.Is w → (q : Place) → decoded w ≡ q → inside x q ≡ true → Within x c (intoPlace x c o q)
+  place-within : (w : ℕ) → wordIn (x .table) c ≡ word.Is w → (q : Place) → decoded w ≡ q → insideSlices x q ≡ true → Within x c (intoPlace x c o q)
   place-within w is Absent e good = start-within x c
   place-within w is (Sparse r l) e good = row-within w r l is e good (spotIn (rowPart (head x) (x .rows) r) l o) refl
   place-within w is (Dense p) e good = page-within p good
 
-  dense-within : (q : Place) → inside x q ≡ true → Within x c (intoDense x o q)
+  dense-within : (q : Place) → insideSlices x q ≡ true → Within x c (intoDense x o q)
   dense-within Absent good = tt
   dense-within (Sparse r l) good = tt
   dense-within (Dense p) good = page-within p good
 
-  word-within : (plan : Place → Plan) → ((w : ℕ) → wordIn (x .table) c ≡ word.Is w → inside x (decoded w) ≡ true → Within x c (plan (decoded w)))
+  word-within : (plan : Place → Plan) → ((w : ℕ) → wordIn (x .table) c ≡ word.Is w → insideSlices x (decoded w) ≡ true → Within x c (plan (decoded w)))
       → (u : Word) → wordIn (x .table) c ≡ u → Within x c (byWord x plan u)
-  word-within plan f (word.Is w) e = within-if x c not-laid-out (inside x (decoded w)) (plan (decoded w)) (f w e)
+  word-within plan f (word.Is w) e = within-if x c not-laid-out (insideSlices x (decoded w)) (plan (decoded w)) (f w e)
   word-within plan f word.Bad e = tt
 
   pub insert-within : Within x c (insertPlan x c o)

@@ -20,7 +20,7 @@ use Rattle.layout.specs.Mem.{Mem}
 use Rattle.layout.specs.Meaning.{holds}
 use Rattle.layout.specs.Follows.{Follows}
 use Rattle.calls.specs.Range.{anyBy}
-use Rattle.calls.specs.Iteration.{to, filledBy, fillFrom, lastId, ended, marked, recordBy, fromZero, iterBy}
+use Rattle.calls.specs.Iteration.{to, filledBy, fillFrom, lastId, ended, endedBy, recordBy, fromZero, iterBy}
 use Rattle.calls.proofs.RangeEntries.{entries-fit}
 use Rattle.calls.proofs.Ranges.{any-in-range-is}
 use Rattle.calls.proofs.IterationEntries.{fill-from}
@@ -116,11 +116,11 @@ module _ {x : Mem} (w : Follows x) (z : ℤ) where
   few l =
       let ids = fill blank 0 (nthFrom P f left) in
       ap (recordBy x z) (some-filled P f left l)
-      ∙ ap (λ (b : Bool). cond b (ended ids left z) (marked ids left z (anyBy x (sucℤ (lastId ids)) (pos (2 ^ 63 - 1))))) (lt-ltb left 64 l)
+      ∙ ap (λ (b : Bool). cond b (ended ids left z) (endedBy ids left z (anyBy x (sucℤ (lastId ids)) (pos (2 ^ 63 - 1))))) (lt-ltb left 64 l)
       ∙ listed-all (omega arith)
 
   -- the mark, by whether there are more than 64
-  mark : (b : Bool) → ltb (f + 64) (total P) ≡ b → 64 ≤ left → marked (fill blank 0 (nthFrom P f 64)) 64 z (truth.Is b) ≡ listing P z
+  mark : (b : Bool) → ltb (f + 64) (total P) ≡ b → 64 ≤ left → endedBy (fill blank 0 (nthFrom P f 64)) 64 z (truth.Is b) ≡ listing P z
   mark true t l =
       let m = ltb-true (f + 64) (total P) t in
       ap (firstOf P z 64 false) (ap sucℤ (last-is P f) ∙ ap pos (sym (add-one (nth P (f + 63))))) ∙ listed-first (omega arith)
@@ -132,7 +132,7 @@ module _ {x : Mem} (w : Follows x) (z : ℤ) where
   many : 64 ≤ left → recordBy x z (filledBy blank 0 (nthFrom P f left)) ≡ listing P z
   many l =
       ap (recordBy x z) (full-filled P f left l)
-      ∙ ap (marked (fill blank 0 (nthFrom P f 64)) 64 z)
+      ∙ ap (endedBy (fill blank 0 (nthFrom P f 64)) 64 z)
       (ap (λ (i : ℤ). anyBy x (sucℤ i) (pos (2 ^ 63 - 1))) (last-is P f)
       ∙ any-in-range-is w (pos (suc (nth P (f + 63)))) (pos (2 ^ 63 - 1))
       ∙ ap truth.Is (more-left P f (omega arith)))

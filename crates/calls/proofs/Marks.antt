@@ -29,7 +29,7 @@ use Rattle.steps.specs.Effects.{PageFor, Becomes}
 use Rattle.steps.proofs.Paged.{paged-becomes}
 use Rattle.document.specs.declared.answer.Truth.{Truth}
 use Rattle.document.specs.declared.answer.Truth.the-variants.{Is}
-use Rattle.calls.specs.Insert.{intoPage, marked, acted}
+use Rattle.calls.specs.Insert.{markPlan, bitPut, acted}
 use Rattle.document.specs.Insert.{chunkSize, grown, newAnswer}
 use Rattle.calls.proofs.Outcomes.{Inserts}
 use Rattle.calls.specs.declared.plan.Plan.the-variants.{Known, Mark}
@@ -58,7 +58,7 @@ module _ {x : Mem} {n : ℕ} (i : Into x n) (q : ℕ) (e : placed x n ≡ Dense 
       ap (λ (t : List ℕ). putPageOwner (head x) t q (chunk x n + 1)) (put-same (head x) (x .table) (laid-ordered w) (chunk x n) (encoded (Dense q)) a (omega arith))
       ∙ set-same (x .table) (pageOwnersAt (head x) + q) (chunk x n + 1) (owns .owner)
 
-  marked-is : paged (head x) x (chunk x n) (Dense q) q (withBit page (offset x n)) ≡ marked x (offset x n) q
+  marked-is : paged (head x) x (chunk x n) (Dense q) q (withBit page (offset x n)) ≡ bitPut x (offset x n) q
   unfolding paged
   marked-is = ap (mem (putPage (head x) (x .pages) q (withBit page (offset x n))) (x .rows) (x .blocks)) table-same
 
@@ -83,5 +83,5 @@ module _ {x : Mem} {n : ℕ} (i : Into x n) (q : ℕ) (e : placed x n ≡ Dense 
   dense-if true s = known-good i (holds-of i (Dense q) e ∙ s)
   dense-if false s = mark-good (newAnswer (stateOf x) (pos n)) (same-room i dense (kind-of i (Dense q) e) refl (holds-of i (Dense q) e ∙ s))
 
-  pub dense-good : Good x n (intoPage x (offset x n) q)
+  pub dense-good : Good x n (markPlan x (offset x n) q)
   dense-good = dense-if (isSet page (offset x n)) refl

@@ -64,5 +64,5 @@ module _ {x : Mem} (w : Follows x) where
 
   -- the entries from chunk c on
   pub from-cut : (c : ℕ) → Cut (chunkAt (head x) (x .table)) (entries (head x) (x .table)) (entryFrom x c) c
-  unfolding entryFrom chunks.entryFrom
+  unfolding entryFrom chunks.firstEntry
   from-cut c = entry-cut (head x) (x .table) (laid-ordered w) c

@@ -62,28 +62,28 @@ abbrev pub intoRow : Mem → ℕ → ℕ → slot.Place → Plan
 intoRow x r l (Found i) = Known
 intoRow x r l (Free k) = cond (ltb l (head x .m)) (Enter r l k) (turnDense x r l)
 
-abbrev pub intoPage : Mem → ℕ → ℕ → Plan
-intoPage x o p = cond (isSet (pagePart (head x) (x .pages) p) o) Known (Mark p)
+abbrev pub markPlan : Mem → ℕ → ℕ → Plan
+markPlan x o p = cond (isSet (pagePart (head x) (x .pages) p) o) Known (Mark p)
 
 -- offset o of chunk c, which is at a place
 abbrev pub intoPlace : Mem → ℕ → ℕ → Place → Plan
 intoPlace x c o Absent = startChunk x c
 intoPlace x c o (Sparse r l) = intoRow x r l (spotIn (rowPart (head x) (x .rows) r) l o)
-intoPlace x c o (Dense p) = intoPage x o p
+intoPlace x c o (Dense p) = markPlan x o p
 
 -- the prepared insert: only into a dense chunk
 abbrev pub intoDense : Mem → ℕ → Place → Plan
 intoDense x o Absent = Refuse not-prepared
 intoDense x o (Sparse r l) = Refuse not-prepared
-intoDense x o (Dense p) = intoPage x o p
+intoDense x o (Dense p) = markPlan x o p
 
 -- a place's row or page is one of the sizes' and lies inside its slice
-abbrev pub inside : Mem → Place → Bool
-inside x q = spotFits (head x) (length (x .pages)) (length (x .rows)) q
+abbrev pub insideSlices : Mem → Place → Bool
+insideSlices x q = spotFits (head x) (length (x .pages)) (length (x .rows)) q
 
 -- by the place that a chunk's word names; 3 where there is none
 abbrev pub byWord : Mem → (Place → Plan) → Word → Plan
-byWord x plan (word.Is w) = cond (inside x (decoded w)) (plan (decoded w)) (Refuse not-laid-out)
+byWord x plan (word.Is w) = cond (insideSlices x (decoded w)) (plan (decoded w)) (Refuse not-laid-out)
 byWord x plan word.Bad = Refuse not-laid-out
 
 unfoldable pub insertPlan : Mem → ℕ → ℕ → Plan
@@ -102,8 +102,8 @@ abbrev pub told : Truth → Mem → Told
 told a x = record { answer = a; after = x }
 
 -- offset o in page p
-abbrev pub marked : Mem → ℕ → ℕ → Mem
-marked x o p = mem (putPage (head x) (x .pages) p (withBit (pagePart (head x) (x .pages) p) o)) (x .rows) (x .blocks) (x .table)
+abbrev pub bitPut : Mem → ℕ → ℕ → Mem
+bitPut x o p = mem (putPage (head x) (x .pages) p (withBit (pagePart (head x) (x .pages) p) o)) (x .rows) (x .blocks) (x .table)
 
 -- offset o of chunk c at place k of row r, which had l members
 abbrev pub entered : Mem → ℕ → ℕ → ℕ → ℕ → ℕ → Mem
@@ -119,7 +119,7 @@ turned x o r l p = withBit (withRow (pagePart (head x) (x .pages) p) (rowPart (h
 abbrev pub acted : Mem → ℕ → ℕ → Plan → Told
 acted x c o (Refuse n) = told (Refused n) x
 acted x c o Known = told (Is false) x
-acted x c o (Mark p) = told (Is true) (marked x o p)
+acted x c o (Mark p) = told (Is true) (bitPut x o p)
 acted x c o (Enter r l k) = told (Is true) (entered x c o r l k)
 acted x c o (Begin r) = told (Is true) (rowed (head x) x c r 1 (insertedAt (rowPart (head x) (x .rows) r) 0 0 o))
 acted x c o (Turn r l p) = told (Is true) (paged (head x) x c (Sparse r l) p (turned x o r l p))

@@ -70,14 +70,14 @@ abbrev pub goesOn : List ℤ → ℕ → Listing
 goesOn ids k = record { ids = ids; count = k; end = false; next = sucℤ (lastId ids); refusal = 0 }
 
 -- by whether there is a member past the last id
-abbrev pub marked : List ℤ → ℕ → ℤ → Truth → Listing
-marked ids k start (truth.Is true) = goesOn ids k
-marked ids k start (truth.Is false) = ended ids k start
-marked ids k start (truth.Refused n) = refusedListing n
+abbrev pub endedBy : List ℤ → ℕ → ℤ → Truth → Listing
+endedBy ids k start (truth.Is true) = goesOn ids k
+endedBy ids k start (truth.Is false) = ended ids k start
+endedBy ids k start (truth.Refused n) = refusedListing n
 
 abbrev pub recordBy : Mem → ℤ → Filled → Listing
 recordBy x start (to ids k) =
-    cond (ltb k 64) (ended ids k start) (marked ids k start (anyBy x (sucℤ (lastId ids)) (pos (2 ^ 63 - 1))))
+    cond (ltb k 64) (ended ids k start) (endedBy ids k start (anyBy x (sucℤ (lastId ids)) (pos (2 ^ 63 - 1))))
 recordBy x start bad = refusedListing not-laid-out
 
 -- a negative start is read as 0

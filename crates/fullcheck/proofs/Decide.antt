@@ -18,7 +18,7 @@ use Rattle.document.specs.Sizes.{top}
 use Rattle.layout.specs.Sizes.{wide, blocksOf, head, totalAt}
 use Rattle.layout.specs.Places.{rowPart, pagePart, rowOwner, pageOwner}
 use Rattle.layout.specs.Entries.{entries, prefixAt, placeAt}
-use Rattle.layout.specs.Follows.{AllZero, Listed, RowListed, membersAt, kept, Laid, Follows}
+use Rattle.layout.specs.Follows.{AllZero, Listed, RowListed, membersAt, whenRanked, Laid, Follows}
 use Rattle.layout.specs.Tests.{rankedAt, Walked, walked}
 use Rattle.layout.proofs.Tests.{always, zeros-of, walked-of}
 use Rattle.layout_laws.proofs.Walked.{laid-walked}
@@ -66,21 +66,21 @@ module _ (h : Sizes) (x : Mem) where
   free-pages-of = all-of (freePageIs h (x .pages) (x .table)) (h .p) (λ p l. if-of (eqb-of (pageOwner h (x .table) p) 0) (zeros-of (x .pages) (p * wide h) (wide h)))
 
   ranks-of : Decides (ranksAre h (x .pages) (x .table))
-      (((e : ℕ) → e < entries h (x .table) → prefixAt h (x .table) e ≡ kept x (sumTo (membersAt h x) e))
-      × (totalAt (x .table) ≡ kept x (sumTo (membersAt h x) (entries h (x .table)))))
+      (((e : ℕ) → e < entries h (x .table) → prefixAt h (x .table) e ≡ whenRanked x (sumTo (membersAt h x) e))
+      × (totalAt (x .table) ≡ whenRanked x (sumTo (membersAt h x) (entries h (x .table)))))
   unfolding ranksAre prefixIs totalIs membersAt sizeOfEntry
   ranks-of =
       and-of
-      (all-of (prefixIs h (x .pages) (x .table)) (entries h (x .table)) (λ e l. eqb-of (prefixAt h (x .table) e) (kept x (sumTo (membersAt h x) e))))
-      (eqb-of (totalAt (x .table)) (kept x (sumTo (membersAt h x) (entries h (x .table)))))
+      (all-of (prefixIs h (x .pages) (x .table)) (entries h (x .table)) (λ e l. eqb-of (prefixAt h (x .table) e) (whenRanked x (sumTo (membersAt h x) e))))
+      (eqb-of (totalAt (x .table)) (whenRanked x (sumTo (membersAt h x) (entries h (x .table)))))
 
   blocks-of : Decides (allTo (pageBlocks h (x .pages) (x .blocks) (rankedAt (x .table))) (h .p))
-      ((p : ℕ) → p < h .p → (b : ℕ) → b < blocksOf h → getD (x .blocks) (p * blocksOf h + b) 0 ≡ kept x (bitsTo (pagePart h (x .pages) p) (512 * b)))
+      ((p : ℕ) → p < h .p → (b : ℕ) → b < blocksOf h → getD (x .blocks) (p * blocksOf h + b) 0 ≡ whenRanked x (bitsTo (pagePart h (x .pages) p) (512 * b)))
   unfolding pageBlocks blockIs
   blocks-of =
       all-of (pageBlocks h (x .pages) (x .blocks) (rankedAt (x .table))) (h .p) (λ p l.
       all-of (blockIs (pagePart h (x .pages) p) (x .blocks) (rankedAt (x .table)) (p * blocksOf h)) (blocksOf h) (λ b m.
-      eqb-of (getD (x .blocks) (p * blocksOf h + b) 0) (kept x (bitsTo (pagePart h (x .pages) p) (512 * b)))))
+      eqb-of (getD (x .blocks) (p * blocksOf h + b) 0) (whenRanked x (bitsTo (pagePart h (x .pages) p) (512 * b)))))
 
   -- after the walk the rest decides the whole rule
   pub laid-of : Walked x h → Decides (restIs h x) (Laid x h)

@@ -16,7 +16,7 @@ use Rattle.layout.specs.declared.place.Place.{Place}
 use Rattle.layout.specs.declared.place.Place.the-variants.{Sparse, Dense}
 use Rattle.layout.specs.Writes.{putPart}
 use Rattle.calls.specs.Reading.{spotBy}
-use Rattle.calls.specs.Insert.{intoPlace, intoDense, inside, byWord, insertPlan, preparedPlan, acted, told}
+use Rattle.calls.specs.Insert.{intoPlace, intoDense, insideSlices, byWord, insertPlan, preparedPlan, acted, told}
 use Rattle.calls.specs.declared.plan.Plan.{Plan}
 use Rattle.calls.specs.declared.plan.Plan.the-variants.{Refuse}
 use Rattle.calls.proofs.Places.{Names, row-at, page-at, bad-at}
@@ -46,7 +46,7 @@ module _ (x : Mem) (c : ℕ) (plan : Place → Plan) where
     by-place : (p : Place) → Names x w p → plan p ≡ byWord x plan (wordIn (x .table) c)
     by-place p i =
         ap (λ (b : Bool). cond b (plan p) (Refuse 3)) (sym (i .good))
-        ∙ (ap (λ (q : Place). cond (inside x q) (plan q) (Refuse 3)) (sym (i .is)) ∙ ap (byWord x plan) e)
+        ∙ (ap (λ (q : Place). cond (insideSlices x q) (plan q) (Refuse 3)) (sym (i .is)) ∙ ap (byWord x plan) e)
 
     by-outside : Bad ≡ spotBy x w → Refuse 3 ≡ byWord x plan (wordIn (x .table) c)
     by-outside f = ap (λ (b : Bool). cond b (plan (decoded w)) (Refuse 3)) (sym (bad-at x w f)) ∙ ap (byWord x plan) e

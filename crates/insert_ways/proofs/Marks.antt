@@ -16,7 +16,7 @@ use Rattle.layout.specs.Sizes.{wide, headerAt}
 use Rattle.layout.specs.Places.{pagePart}
 use Rattle.document.specs.declared.answer.Truth.the-variants as truth
 use Rattle.layout.specs.Writes.{putPart, putPage}
-use Rattle.calls.specs.Insert.{intoPage, acted, told}
+use Rattle.calls.specs.Insert.{markPlan, acted, told}
 use Rattle.calls.specs.declared.plan.Plan.the-variants.{Known, Mark}
 
 -- ---- a bit that is set already
@@ -62,5 +62,5 @@ module _ (pages rows b t : List ℕ) (c o q a n : ℕ) (ea : a ≡ q * wide (hea
       (put ∙ (ap (putPage (headerAt t) pages q) (with-same page o g) ∙ put-same pages (q * wide (headerAt t)) (wide (headerAt t))))
   marked-if false g = ap₂ (λ (i : Bool) (u : List ℕ). told (truth.Is i) (mem u rows b t)) (answered ∙ ap not g) put
 
-  pub page-marked : told (truth.Is k) (mem p rows b t) ≡ acted (mem pages rows b t) c o (intoPage (mem pages rows b t) o q)
+  pub page-marked : told (truth.Is k) (mem p rows b t) ≡ acted (mem pages rows b t) c o (markPlan (mem pages rows b t) o q)
   page-marked = marked-if (isSet page o) refl

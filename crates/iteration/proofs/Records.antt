@@ -16,7 +16,7 @@ use Rattle.document.specs.declared.answer.Listing.{Listing}
 use Rattle.layout.specs.Mem.{Mem}
 use Rattle.calls.specs.Counts.{entriesOk}
 use Rattle.calls.specs.Range.{anyBy}
-use Rattle.calls.specs.Iteration.{to, fillFrom, lastId, ended, marked, recordBy, fromZero, iterBy}
+use Rattle.calls.specs.Iteration.{to, fillFrom, lastId, ended, endedBy, recordBy, fromZero, iterBy}
 use Rattle.iteration.specs.Turns.{filled}
 use Rattle.iteration.specs.declared.listing.Step.{Step}
 use Rattle.iteration.specs.declared.listing.Step.the-variants.{To, Bad}
@@ -29,7 +29,7 @@ module _ (x : Mem) (ids : List ℤ) (k : ℕ) (start : ℤ) (s : SFits w64 start
   past = anyBy x (sucℤ (lastId ids)) (pos (2 ^ 63 - 1))
 
   by-mark : Bool → Listing
-  by-mark b = cond b (ended ids k start) (marked ids k start past)
+  by-mark b = cond b (ended ids k start) (endedBy ids k start past)
 
   ends : ended ids k (toZ w64 (ofZ w64 start)) ≡ ended ids k start
   ends = hop (ended ids k) start s
@@ -42,9 +42,9 @@ module _ (x : Mem) (ids : List ℤ) (k : ℕ) (start : ℤ) (s : SFits w64 start
     asked : r ≡ past
     asked = e ∙ hop (λ (z : ℤ). anyBy x (sucℤ z) (pos (2 ^ 63 - 1))) (lastId ids) (record { sfits = f })
 
-    full : (q : Truth) → r ≡ q → marked ids k start q ≡ recordBy x start (to ids k)
+    full : (q : Truth) → r ≡ q → endedBy ids k start q ≡ recordBy x start (to ids k)
     unfolding by-mark
-    full q g = ap (marked ids k start) (sym g ∙ asked) ∙ ap by-mark (sym (le-ltb k 64 l))
+    full q g = ap (endedBy ids k start) (sym g ∙ asked) ∙ ap by-mark (sym (le-ltb k 64 l))
 
     pub record-refused : (n : ℕ) → r ≡ Refused n → refusedListing n ≡ recordBy x start (to ids k)
     record-refused n g = full (Refused n) g

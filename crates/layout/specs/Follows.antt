@@ -67,8 +67,8 @@ unfoldable pub membersAt : Sizes → Mem → ℕ → ℕ
 membersAt h x e = sizeOf h (x .pages) (placeAt h (x .table) e)
 
 -- a count that only a ranked set keeps
-abbrev pub kept : Mem → ℕ → ℕ
-kept x n = cond (ranked x) n 0
+abbrev pub whenRanked : Mem → ℕ → ℕ
+whenRanked x n = cond (ranked x) n 0
 
 -- memory x is laid out by the sizes h
 pub record Laid (x : Mem) (h : Sizes) : Type 0 where
@@ -86,9 +86,9 @@ pub record Laid (x : Mem) (h : Sizes) : Type 0 where
   pub free-pages : (p : ℕ) → p < h .p → pageOwner h (x .table) p ≡ 0 → AllZero (x .pages) (p * wide h) (wide h)
   pub rows-used : count (λ (r : ℕ). not (eqb (rowOwner h (x .table) r) 0)) (h .r) ≡ count (λ (e : ℕ). hasRow (placeAt h (x .table) e)) (entries h (x .table))
   pub pages-used : count (λ (p : ℕ). not (eqb (pageOwner h (x .table) p) 0)) (h .p) ≡ count (λ (e : ℕ). hasPage (placeAt h (x .table) e)) (entries h (x .table))
-  pub prefixes : (e : ℕ) → e < entries h (x .table) → prefixAt h (x .table) e ≡ kept x (sumTo (membersAt h x) e)
-  pub total : totalAt (x .table) ≡ kept x (sumTo (membersAt h x) (entries h (x .table)))
-  pub blocks : (p b : ℕ) → p < h .p → b < blocksOf h → getD (x .blocks) (p * blocksOf h + b) 0 ≡ kept x (bitsTo (pagePart h (x .pages) p) (512 * b))
+  pub prefixes : (e : ℕ) → e < entries h (x .table) → prefixAt h (x .table) e ≡ whenRanked x (sumTo (membersAt h x) e)
+  pub total : totalAt (x .table) ≡ whenRanked x (sumTo (membersAt h x) (entries h (x .table)))
+  pub blocks : (p b : ℕ) → p < h .p → b < blocksOf h → getD (x .blocks) (p * blocksOf h + b) 0 ≡ whenRanked x (bitsTo (pagePart h (x .pages) p) (512 * b))
 
 abbrev pub Follows : Mem → Type 0
 Follows x = Laid x (head x)

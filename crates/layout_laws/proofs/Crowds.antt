@@ -13,7 +13,7 @@ use Rattle.layout.specs.Sizes.{overCount}
 use Rattle.layout.specs.Entries.{entries, chunkAt}
 use Rattle.layout.specs.Short.{lowerKey, overPlace}
 use Rattle.document.specs.declared.sizes.Sizes.{Sizes}
-use Rattle.layout_laws.specs.Chunks.{entryFrom}
+use Rattle.layout_laws.specs.Chunks.{firstEntry}
 use Rattle.layout_laws.proofs.Keys.{Cut, cut-count}
 use Rattle.layout_laws.proofs.Halving.{lower-first}
 use Rattle.layout_laws.proofs.Entries.{Ordered, chunk-rising}
@@ -65,24 +65,24 @@ unfoldable pub above : Sizes → List ℕ → ℕ → ℕ
 above h t N = count (λ (e : ℕ). not (ltb (chunkAt h t e) N)) (entries h t)
 
 module _ (h : Sizes) (t : List ℕ) (o : Ordered h t) where
-  from-above : (N : ℕ) → entryFrom h t N + above h t N ≡ entries h t
+  from-above : (N : ℕ) → firstEntry h t N + above h t N ≡ entries h t
   unfolding above belowOf
   from-above N =
-      let a = cut-count (chunkAt h t) (entries h t) (entryFrom h t N) N (entry-cut h t o N) in
+      let a = cut-count (chunkAt h t) (entries h t) (firstEntry h t N) N (entry-cut h t o N) in
       let b = count-not (λ (e : ℕ). ltb (chunkAt h t e) N) (entries h t) in
       omega arith
 
   pub above-over : (N : ℕ) → h .d ≤ N → above h t N ≡ overCount t - overPlace t (16 + 2 * h .d) (overCount t) N
-  unfolding entryFrom
+  unfolding firstEntry
   above-over N l =
       let k = overPlace t (16 + 2 * h .d) (overCount t) N in
-      let e : entryFrom h t N ≡ h .d + k = ap (λ (b : Bool). cond b N (h .d + k)) (le-ltb N (h .d) l) in
+      let e : firstEntry h t N ≡ h .d + k = ap (λ (b : Bool). cond b N (h .d + k)) (le-ltb N (h .d) l) in
       let f = from-above N in
       omega arith
 
   -- where a chunk m of those up to c has no entry
   pub entries-missed : (c m : ℕ) → m ≤ c → ((e : ℕ) → e < entries h t → chunkAt h t e ≢ m) → entries h t ≤ c + above h t (c + 1)
   entries-missed c m l none =
-      let k = crowd-missed (chunkAt h t) (entries h t) (chunk-rising h t o) (entryFrom h t (c + 1)) c m (entry-cut h t o (c + 1)) l none in
+      let k = crowd-missed (chunkAt h t) (entries h t) (chunk-rising h t o) (firstEntry h t (c + 1)) c m (entry-cut h t o (c + 1)) l none in
       let f = from-above (c + 1) in
       omega arith

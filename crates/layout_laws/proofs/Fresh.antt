@@ -15,7 +15,7 @@ use Rattle.layout.specs.Entries.{entries, chunkAt, prefixAt, placeAt, placeOf}
 use Rattle.document.specs.State.{absent, isPresent}
 use Rattle.layout.specs.Meaning.{offsets, holds, kindOf, kinds, ranked, stateOf}
 use Rattle.document.specs.Answers.{chunksIn}
-use Rattle.layout.specs.Follows.{AllZero, Owned, RowListed, kept, Laid, Follows}
+use Rattle.layout.specs.Follows.{AllZero, Owned, RowListed, whenRanked, Laid, Follows}
 use Rattle.layout.specs.SetUp.{freshTable, fresh}
 use Rattle.document.specs.declared.sizes.Sizes.{Sizes}
 use Rattle.layout.specs.declared.place.Place.{Place}
@@ -35,7 +35,7 @@ pub record Blank (y : Mem) (h : Sizes) : Type 0 where
   pub blocks : (i : ℕ) → i < h .p * blocksOf h → getD (y .blocks) i 0 ≡ 0
 
 -- a count that an open set doesn't keep
-pub kept-open : (y : Mem) → modeAt (y .table) ≡ 0 → (n : ℕ) → kept y n ≡ 0
+pub kept-open : (y : Mem) → modeAt (y .table) ≡ 0 → (n : ℕ) → whenRanked y n ≡ 0
 kept-open y e n = ap (λ (m : ℕ). cond (eqb m 1) n 0) e
 
 -- part i of n, each k long, of a run of zeros

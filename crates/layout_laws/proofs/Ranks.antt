@@ -16,10 +16,10 @@ use Rattle.layout.specs.Sizes.{blocksOf, head, overAt, overCount, totalAt}
 use Rattle.layout.specs.Places.{pagePart}
 use Rattle.layout.specs.Entries.{entries, chunkAt, prefixAt, wordOf, placeOf}
 use Rattle.layout.specs.Meaning.{holds, ranked}
-use Rattle.layout.specs.Follows.{membersAt, kept, Follows}
+use Rattle.layout.specs.Follows.{membersAt, whenRanked, Follows}
 use Rattle.layout.specs.Short.{overPlace, spotOf}
 use Rattle.document.specs.declared.sizes.Sizes.{Sizes}
-use Rattle.layout_laws.specs.Chunks.{entryFrom, firstRank, spotBelow}
+use Rattle.layout_laws.specs.Chunks.{firstEntry, firstRank, spotBelow}
 use Rattle.layout_laws.proofs.Keys.{Cut}
 use Rattle.layout_laws.proofs.Halving.{lower-first}
 use Rattle.layout_laws.proofs.Entries.{Which, direct, over, which, Ordered, laid-ordered, chunk-direct, chunk-over, chunk-past}
@@ -49,8 +49,8 @@ module _ (h : Sizes) (t : List ℕ) (o : Ordered h t) (c : ℕ) where
       late e a b (direct q) = absurd (omega arith)
       late e a b (over j q) = let p = ap (chunkAt h t) q ∙ chunk-over h t j in let f = u .after j (omega arith) (omega arith) in omega arith
 
-  pub entry-cut : Cut (chunkAt h t) (entries h t) (entryFrom h t c) c
-  unfolding entryFrom
+  pub entry-cut : Cut (chunkAt h t) (entries h t) (firstEntry h t c) c
+  unfolding firstEntry
   entry-cut = go (ltb c (h .d)) refl
     where
       go : (b : Bool) → ltb c (h .d) ≡ b → Cut (chunkAt h t) (entries h t) (cond b c (h .d + overPlace t (16 + 2 * h .d) (overCount t) c)) c
@@ -59,7 +59,7 @@ module _ (h : Sizes) (t : List ℕ) (o : Ordered h t) (c : ℕ) where
 
 -- ---- prefixes, the total, block counts
 
-pub kept-ranked : (x : Mem) → ranked x ≡ true → (n : ℕ) → kept x n ≡ n
+pub kept-ranked : (x : Mem) → ranked x ≡ true → (n : ℕ) → whenRanked x n ≡ n
 kept-ranked x r n = ap (λ (b : Bool). cond b n 0) r
 
 module _ {x : Mem} (w : Follows x) (r : ranked x ≡ true) where
@@ -80,7 +80,7 @@ module _ {x : Mem} (w : Follows x) (r : ranked x ≡ true) where
   -- of any chunk: the prefix of the first entry from it on, or the total
   pub first-rank : (c : ℕ) → count (holds x) (c * top (head x)) ≡ firstRank x c
   unfolding firstRank
-  first-rank c = go (entryFrom (head x) (x .table) c) (entry-cut (head x) (x .table) (laid-ordered w) c) (ltb (entryFrom (head x) (x .table) c) (entries (head x) (x .table))) refl
+  first-rank c = go (firstEntry (head x) (x .table) c) (entry-cut (head x) (x .table) (laid-ordered w) c) (ltb (firstEntry (head x) (x .table) c) (entries (head x) (x .table))) refl
     where
       go : (k : ℕ) → Cut (chunkAt (head x) (x .table)) (entries (head x) (x .table)) k c → (b : Bool) → ltb k (entries (head x) (x .table)) ≡ b → count (holds x) (c * top (head x)) ≡ cond b (prefixAt (head x) (x .table) k) (totalAt (x .table))
       go k u true e = count-cut w k c u ∙ sym (w .prefixes k (ltb-true k (entries (head x) (x .table)) e) ∙ kept-ranked x r (sumTo (membersAt (head x) x) k))

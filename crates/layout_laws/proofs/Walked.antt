@@ -17,12 +17,12 @@ use Rattle.layout.specs.Sizes.{head, overCount, totalAt}
 use Rattle.layout.specs.Places.{pagePart}
 use Rattle.layout.specs.Entries.{entries, chunkAt, prefixAt, placeAt}
 use Rattle.layout.specs.Meaning.{ranked}
-use Rattle.layout.specs.Follows.{Owned, sizeOf, membersAt, kept, Laid, Follows}
+use Rattle.layout.specs.Follows.{Owned, sizeOf, membersAt, whenRanked, Laid, Follows}
 use Rattle.layout.specs.Tests.{prefixAfter, Walked, walked}
 use Rattle.layout.specs.declared.place.Place.{Place}
 use Rattle.layout.specs.declared.place.Place.the-variants.{Absent, Sparse, Dense}
 use Rattle.layout.proofs.Tests.{after-entry, after-all, walked-of}
-use Rattle.layout_laws.specs.Chunks.{entryFrom, firstRank}
+use Rattle.layout_laws.specs.Chunks.{firstEntry, firstRank}
 
 -- ---- members are few
 
@@ -58,7 +58,7 @@ module _ {x : Mem} {h : Sizes} (w : Walked x h) where
 -- ---- the rule, and the walk
 
 module _ {x : Mem} {h : Sizes} (w : Laid x h) (r : ranked x ≡ true) where
-  kept-all : (n : ℕ) → kept x n ≡ n
+  kept-all : (n : ℕ) → whenRanked x n ≡ n
   kept-all n = ap (λ (b : Bool). cond b n 0) r
 
   -- a prefix and the members of its entry are the next prefix
@@ -130,12 +130,12 @@ module _ {x : Mem} {h : Sizes} (w : Walked x h) (r : ranked x ≡ true) where
 -- what such a set says of a chunk's first id fits beside the members of a chunk
 pub first-fits : {x : Mem} → Walked x (head x) → ranked x ≡ true → (c : ℕ) → firstRank x c < 2 ^ 63
 unfolding firstRank
-first-fits {x} w r c = go (ltb (entryFrom (head x) (x .table) c) (entries (head x) (x .table))) refl
+first-fits {x} w r c = go (ltb (firstEntry (head x) (x .table) c) (entries (head x) (x .table))) refl
   where
-    go : (b : Bool) → ltb (entryFrom (head x) (x .table) c) (entries (head x) (x .table)) ≡ b
-        → cond b (prefixAt (head x) (x .table) (entryFrom (head x) (x .table) c)) (totalAt (x .table)) < 2 ^ 63
+    go : (b : Bool) → ltb (firstEntry (head x) (x .table) c) (entries (head x) (x .table)) ≡ b
+        → cond b (prefixAt (head x) (x .table) (firstEntry (head x) (x .table) c)) (totalAt (x .table)) < 2 ^ 63
     go true e =
-        let a = prefix-total w r (entryFrom (head x) (x .table) c) (ltb-true (entryFrom (head x) (x .table) c) (entries (head x) (x .table)) e) in
+        let a = prefix-total w r (firstEntry (head x) (x .table) c) (ltb-true (firstEntry (head x) (x .table) c) (entries (head x) (x .table)) e) in
         let b = w .total r in
         omega arith
     go false e = w .total r

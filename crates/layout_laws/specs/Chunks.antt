@@ -34,14 +34,14 @@ spotBelow x (Page a k) o = bitsTo (take k (drop a (x .pages))) o
 spotBelow x Bad o = 0
 
 -- the entry of the first chunk that is not below c
-unfoldable pub entryFrom : Sizes → List ℕ → ℕ → ℕ
-entryFrom h t c = cond (ltb c (h .d)) c (h .d + overPlace t (overStart (h .d)) (overCount t) c)
+unfoldable pub firstEntry : Sizes → List ℕ → ℕ → ℕ
+firstEntry h t c = cond (ltb c (h .d)) c (h .d + overPlace t (overStart (h .d)) (overCount t) c)
 
 -- what a ranked set says of chunk c's first id: the prefix of that entry, or past the last one the total
 unfoldable pub firstRank : Mem → ℕ → ℕ
 firstRank x c =
-    cond (ltb (entryFrom (head x) (x .table) c) (entries (head x) (x .table)))
-    (prefixAt (head x) (x .table) (entryFrom (head x) (x .table) c))
+    cond (ltb (firstEntry (head x) (x .table) c) (entries (head x) (x .table)))
+    (prefixAt (head x) (x .table) (firstEntry (head x) (x .table) c))
     (totalAt (x .table))
 
 -- members at a place below offset o

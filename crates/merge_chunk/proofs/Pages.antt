@@ -21,7 +21,7 @@ use Rattle.calls.specs.Prepare.{intoPage}
 use Rattle.merge_plan.specs.Sides.{WithRows}
 use Rattle.steps.specs.Ready.{Fillable}
 use Rattle.steps.proofs.Fills.{put-back}
-use Rattle.unions.specs.Union.{fits, isDense, pageOf, withSource, joinedPage}
+use Rattle.unions.specs.Union.{fits, unionDense, pageOf, withSource, joinedPage}
 use Rattle.merge_slots.specs.Pools.{PagePools, RowPools}
 use Rattle.merge_chunk.specs.Effects.{pageOr, Densely}
 use Rattle.merge_chunk.proofs.Heads.{head-into}
@@ -121,15 +121,15 @@ module _ (h g : Sizes) (ps sp sr : List ℕ) (p : ℕ) (o : Place) where
 -- ---- chunk c, at o here and at q there; d says whether the union is dense, and k is its page
 
 module _ (h g : Sizes) (ps rs t sp sr : List ℕ) (c : ℕ) (o q : Place) (header : h ≡ headerAt t)
-    (d : Bool) (told : (x y : Mem) → WithRows h rs x → WithRows g sr y → d ≡ isDense x y o q) where
-  dense-is : (b sb st : List ℕ) → g ≡ headerAt st → isDense (mem ps rs b t) (mem sp sr sb st) o q ≡ d
+    (d : Bool) (told : (x y : Mem) → WithRows h rs x → WithRows g sr y → d ≡ unionDense x y o q) where
+  dense-is : (b sb st : List ℕ) → g ≡ headerAt st → unionDense (mem ps rs b t) (mem sp sr sb st) o q ≡ d
   dense-is b sb st e = sym (told (mem ps rs b t) (mem sp sr sb st) (record { sizes = sym header; held = refl }) (record { sizes = sym e; held = refl }))
 
   pub densely-not : d ≡ false → Densely ps rs t ps rs t sp sr g c o q
   densely-not n b sb st e =
       let x = mem ps rs b t in
       let y = mem sp sr sb st in
-      cond-no (isDense x y o q && ltb (pageOf x o) (head x .p)) (joinedPage (intoPage (head x) x c (pageOf x o) o) y o (pageOf x o) q) x
+      cond-no (unionDense x y o q && ltb (pageOf x o) (head x .p)) (joinedPage (intoPage (head x) x c (pageOf x o) o) y o (pageOf x o) q) x
       (ap (λ (i : Bool). i && ltb (pageOf x o) (head x .p)) (dense-is b sb st e ∙ n))
 
   module _ (p : ℕ) (lowest : p ≡ firstFree (pageOwner h t) 0 (h .p)) (k : ℕ) (page : k ≡ pageOr o p) where
@@ -143,8 +143,8 @@ module _ (h g : Sizes) (ps rs t sp sr : List ℕ) (c : ℕ) (o q : Place) (heade
     densely-full l b sb st e =
         let x = mem ps rs b t in
         let y = mem sp sr sb st in
-        cond-no (isDense x y o q && ltb (pageOf x o) (head x .p)) (joinedPage (intoPage (head x) x c (pageOf x o) o) y o (pageOf x o) q) x
-        (second-not (isDense x y o q) (ltb (pageOf x o) (head x .p)) (test b ∙ le-ltb k (h .p) l))
+        cond-no (unionDense x y o q && ltb (pageOf x o) (head x .p)) (joinedPage (intoPage (head x) x c (pageOf x o) o) y o (pageOf x o) q) x
+        (second-not (unionDense x y o q) (ltb (pageOf x o) (head x .p)) (test b ∙ le-ltb k (h .p) l))
 
     -- the chunk goes into the page, then the source's members do
     module _ (ps₁ rs₁ t₁ ps₂ : List ℕ) (into : (b : List ℕ) → mem ps₁ rs₁ b t₁ ≡ intoPage h (mem ps rs b t) c k o)
@@ -160,5 +160,5 @@ module _ (h g : Sizes) (ps rs t sp sr : List ℕ) (c : ℕ) (o q : Place) (heade
           ∙ (λ j. mem (putPage (header-then b j) ps₁ k (withSource y o (pagePart (header-then b j) ps₁ k) q)) rs₁ b t₁)
           ∙ ap (λ (z : Mem). joinedPage z y o k q) (into b)
           ∙ (λ j. joinedPage (intoPage (header j) x c (page-is b j) o) y o (page-is b j) q)
-          ∙ cond-yes (isDense x y o q && ltb (pageOf x o) (head x .p)) (joinedPage (intoPage (head x) x c (pageOf x o) o) y o (pageOf x o) q) x
-          (both-are (isDense x y o q) (ltb (pageOf x o) (head x .p)) (dense-is b sb st e ∙ is) (test b ∙ lt-ltb k (h .p) l))
+          ∙ cond-yes (unionDense x y o q && ltb (pageOf x o) (head x .p)) (joinedPage (intoPage (head x) x c (pageOf x o) o) y o (pageOf x o) q) x
+          (both-are (unionDense x y o q) (ltb (pageOf x o) (head x .p)) (dense-is b sb st e ∙ is) (test b ∙ lt-ltb k (h .p) l))

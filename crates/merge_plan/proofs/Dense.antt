@@ -17,7 +17,7 @@ use Rattle.layout.specs.declared.place.Place.{Place}
 use Rattle.layout.specs.declared.place.Place.the-variants.{Absent, Sparse, Dense}
 use Rattle.layout.proofs.Parts.{slot-in}
 use Rattle.layout.proofs.Lent.{span}
-use Rattle.unions.specs.Union.{isDense}
+use Rattle.unions.specs.Union.{unionDense}
 use Rattle.merge_plan.specs.Sides.{Side, WithRows}
 
 -- ---- l offsets of a row that is inside the rows
@@ -47,18 +47,18 @@ module _ (h : Sizes) (rows : List ℕ) (r l : ℕ) (s : Side h rows (Sparse r l)
 
 module _ (h g : Sizes) (rows srows : List ℕ) (x y : Mem) (a : WithRows h rows x) (b : WithRows g srows y) where
   pub rows-dense : (o : Place) (r l i k n : ℕ) → o ≡ Sparse r l
-      → n ≡ length (union (take l (rowPart h rows r)) (take k (rowPart g srows i))) → ltb (h .m) n ≡ isDense x y o (Sparse i k)
+      → n ≡ length (union (take l (rowPart h rows r)) (take k (rowPart g srows i))) → ltb (h .m) n ≡ unionDense x y o (Sparse i k)
   rows-dense o r l i k n eo e =
       ap (ltb (h .m)) e
       ∙ (λ t. ltb (sym (a .sizes) t .m)
       (length (union (take l (rowPart (sym (a .sizes) t) (sym (a .held) t) r)) (take k (rowPart (sym (b .sizes) t) (sym (b .held) t) i)))))
-      ∙ ap (λ (o : Place). isDense x y o (Sparse i k)) (sym eo)
+      ∙ ap (λ (o : Place). unionDense x y o (Sparse i k)) (sym eo)
 
 module _ (x y : Mem) where
-  dense-there : (o : Place) (p : ℕ) → true ≡ isDense x y o (Dense p)
+  dense-there : (o : Place) (p : ℕ) → true ≡ unionDense x y o (Dense p)
   dense-there Absent p = refl
   dense-there (Sparse r l) p = refl
   dense-there (Dense q) p = refl
 
-  pub page-dense : (o q : Place) (p : ℕ) → q ≡ Dense p → true ≡ isDense x y o q
-  page-dense o q p e = dense-there o p ∙ ap (isDense x y o) (sym e)
+  pub page-dense : (o q : Place) (p : ℕ) → q ≡ Dense p → true ≡ unionDense x y o q
+  page-dense o q p e = dense-there o p ∙ ap (unionDense x y o) (sym e)

@@ -18,7 +18,7 @@ use Rattle.layout.specs.Sizes.{head, overCount}
 use Rattle.layout.specs.Places.{hasRow, hasPage, rowOwner, pageOwner}
 use Rattle.layout.specs.Tests.{rowsOwned, pagesOwned}
 use Rattle.layout.specs.declared.place.Place.{Place}
-use Rattle.unions.specs.Union.{standing, source, chunkOf, sourceEntries, isDense, newEntry, newRow, freedRow, newPage, overAfter, rowsAfter, pagesAfter, judged}
+use Rattle.unions.specs.Union.{standing, source, sourceChunk, sourceEntries, unionDense, newEntry, newRow, freedRow, newPage, overAfter, rowsAfter, pagesAfter, judged}
 use Rattle.merge_plan.specs.Judging.{Passed, Small, withChunk, growthTo}
 use Rattle.merge_plan.specs.declared.judge.Growth.{Growth}
 
@@ -84,7 +84,7 @@ module _ (x y : Mem) where
       pages = omega (arith, ap (λ (k : Growth). k .pages) en, count-le (newPage x y) e);
     }
 
-    next : withChunk (growthTo x y e) (head x) (chunkOf y e) (standing x (chunkOf y e)) (source y e) (isDense x y (standing x (chunkOf y e)) (source y e))
+    next : withChunk (growthTo x y e) (head x) (sourceChunk y e) (standing x (sourceChunk y e)) (source y e) (unionDense x y (standing x (sourceChunk y e)) (source y e))
         ≡ growthTo x y (e + 1)
     unfolding growthTo newEntry newRow freedRow newPage
     next = λ i. record {
@@ -94,11 +94,11 @@ module _ (x y : Mem) where
       pages = sym (count-next (newPage x y) e) i;
     }
 
-    pub entry-grown : (h : Sizes) (c : ℕ) (o q : Place) (d : Bool) (k : Growth) → h ≡ head x → c ≡ chunkOf y e → o ≡ standing x c → q ≡ source y e
-        → d ≡ isDense x y o q → k ≡ withChunk n h c o q d → k ≡ growthTo x y (e + 1)
+    pub entry-grown : (h : Sizes) (c : ℕ) (o q : Place) (d : Bool) (k : Growth) → h ≡ head x → c ≡ sourceChunk y e → o ≡ standing x c → q ≡ source y e
+        → d ≡ unionDense x y o q → k ≡ withChunk n h c o q d → k ≡ growthTo x y (e + 1)
     entry-grown h c o q d k eh ec eo eq ed ek =
         let here = eo ∙ ap (standing x) ec in
-        let dense = ed ∙ ap₂ (isDense x y) here eq in
+        let dense = ed ∙ ap₂ (unionDense x y) here eq in
         ek ∙ (λ i. withChunk (en i) (eh i) (ec i) (here i) (eq i) (dense i)) ∙ next
 
   pub grown-all : (e : ℕ) (n : Growth) → n ≡ growthTo x y e → (g : Sizes) → g ≡ head y → (o : ℕ) → o ≡ overCount (y .table) → e ≡ g .d + o

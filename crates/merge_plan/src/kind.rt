@@ -5,7 +5,7 @@ ghost use Rattle.sparse.specs.Union.{union};
 ghost use Rattle.layout.specs.Mem.{Mem};
 ghost use Rattle.layout.specs.Places.{rowPart};
 ghost use Rattle.layout.specs.declared.place.Place.the-variants.{Sparse};
-ghost use Rattle.unions.specs.Union.{isDense};
+ghost use Rattle.unions.specs.Union.{unionDense};
 ghost use Rattle.merge_plan.specs.Sides.{Side, WithRows};
 use document::sizes::Sizes;
 use layout::head;
@@ -26,7 +26,7 @@ fn rows_len(rows: &[u32], h: Sizes, r: u64, l: u64, srows: &[u32], g: Sizes, i: 
 // With k offsets of the source's row i: two sparse chunks stay sparse up to m members.
 fn with_row(rows: &[u32], h: Sizes, o: Place, srows: &[u32], g: Sizes, i: u64, k: u64) -> bool
     requires { ⌜ Side h (now rows) o × Side g (now srows) (Sparse i k) ⌝ }
-    ensures { λ d. ⌜ ((x y : Mem) → WithRows h (now (rows .entry)) x → WithRows g (now (srows .entry)) y → d ≡ isDense x y o (Sparse i k)) ⌝ }
+    ensures { λ d. ⌜ ((x y : Mem) → WithRows h (now (rows .entry)) x → WithRows g (now (srows .entry)) y → d ≡ unionDense x y o (Sparse i k)) ⌝ }
 {
     match o {
         Place::Absent => false,
@@ -38,7 +38,7 @@ fn with_row(rows: &[u32], h: Sizes, o: Place, srows: &[u32], g: Sizes, i: u64, k
 // A chunk at o here and at q there: any dense side gives dense.
 pub fn is_dense(rows: &[u32], h: Sizes, o: Place, srows: &[u32], g: Sizes, q: Place) -> bool
     requires { ⌜ Side h (now rows) o × Side g (now srows) q ⌝ }
-    ensures { λ d. ⌜ ((x y : Mem) → WithRows h (now (rows .entry)) x → WithRows g (now (srows .entry)) y → d ≡ isDense x y o q) ⌝ }
+    ensures { λ d. ⌜ ((x y : Mem) → WithRows h (now (rows .entry)) x → WithRows g (now (srows .entry)) y → d ≡ unionDense x y o q) ⌝ }
 {
     match q {
         Place::Absent => false,

@@ -16,8 +16,8 @@ use Rattle.layout.specs.Free.{firstFree}
 use Rattle.layout.specs.declared.place.Place.{Place}
 use Rattle.calls.proofs.FirstFree.{first-free}
 use Rattle.calls.proofs.Cursor.{first-from}
-use Rattle.unions.specs.Union.{fits, standing, source, chunkOf, sourceEntries, densely, sparsely}
-use Rattle.unions.specs.Joins.{Joins}
+use Rattle.unions.specs.Union.{fits, standing, source, sourceChunk, sourceEntries, densely, sparsely}
+use Rattle.unions.specs.Joinable.{Joinable}
 use Rattle.unions.proofs.Standing.{chunk-in}
 use Rattle.unions.proofs.Results.{same-s, same-m}
 use Rattle.unions.proofs.Onward.{Turned}
@@ -50,7 +50,7 @@ module _ (h g : Sizes) (t st : List ℕ) (e : ℕ) (E : Entry h g t st e) (c : �
 
 -- ---- on the way from x, with the source y: memory z
 
-module _ {z y : Mem} (J : Joins z y) (h g : Sizes) (eh : h ≡ head z) (eg : g ≡ head y) where
+module _ {z y : Mem} (J : Joinable z y) (h g : Sizes) (eh : h ≡ head z) (eg : g ≡ head y) where
   sizes : InRange h
   sizes = subst InRange (sym eh) (J .here .sizes)
 

@@ -14,7 +14,7 @@ use Rattle.layout.specs.Entries.{entries}
 use Rattle.layout.specs.Free.{firstFree}
 use Rattle.calls.proofs.FirstFree.{first-free}
 use Rattle.unions.specs.Union.{sourceEntries, denseTo, sparseTo, unitedBy}
-use Rattle.unions.specs.Joins.{Joins}
+use Rattle.unions.specs.Joinable.{Joinable}
 use Rattle.unions.proofs.Onward.{Turned, Kept, dense-turned, sparse-turned, dense-kept, sparse-kept}
 use Rattle.merge_slots.specs.Pools.{PagePools, RowPools}
 use Rattle.merging.specs.Ready.{Entry, Sound, RowsSound}

@@ -3,13 +3,13 @@ use mathlib.Core.Path.{_≡_}
 use mathlib.Core.List.{List}
 use Prim.Native.Nat.{ℕ}
 use Rattle.layout.specs.Mem.{Mem, mem}
-use Rattle.unions.specs.Union.{standing, source, chunkOf, densely, sparsely}
+use Rattle.unions.specs.Union.{standing, source, sourceChunk, densely, sparsely}
 
 abbrev pub denselyAt : Mem → Mem → ℕ → Mem
-denselyAt x y e = densely x y (chunkOf y e) (standing x (chunkOf y e)) (source y e)
+denselyAt x y e = densely x y (sourceChunk y e) (standing x (sourceChunk y e)) (source y e)
 
 abbrev pub sparselyAt : Mem → Mem → ℕ → Mem
-sparselyAt x y e = sparsely x y (chunkOf y e) (standing x (chunkOf y e)) (source y e)
+sparselyAt x y e = sparsely x y (sourceChunk y e) (standing x (sourceChunk y e)) (source y e)
 
 abbrev pub DenseTurn : List ℕ → List ℕ → List ℕ → List ℕ → List ℕ → List ℕ → List ℕ → List ℕ → List ℕ → ℕ → Type 0
 DenseTurn ps rs t ps′ rs′ t′ sp sr st e = (b sb : List ℕ) → mem ps′ rs′ b t′ ≡ denselyAt (mem ps rs b t) (mem sp sr sb st) e

@@ -52,7 +52,7 @@ use Rattle.contracts.proofs.Steps.{does}
 use Rattle.contracts.proofs.SetUps.{sets-up}
 use Rattle.contracts.proofs.Joins.{joins}
 use Rattle.promises.proofs.Unique.{asked, asked-once, asked-some}
-use Rattle.promises.specs.Cases.{tiny, blank, describedBy, answers, reached, heard, start, Past, fresh, _then_, took, gave, described, memory, Case, calls, unites, asks, kind, row, page, whole, plain, Says, AllSay, memoryRows, plainRows, table}
+use Rattle.promises.specs.Cases.{tiny, zeros, statedBy, answers, reached, heard, start, Past, fresh, _then_, took, gave, stated, memory, Case, calls, unites, asks, kind, row, page, whole, plain, Says, AllSay, memoryRows, plainRows, table}
 
 -- ---- the ids of a row are i64
 
@@ -92,7 +92,7 @@ fitting leave e = tt
 
 pub record Along (x : Mem) (q : State) (cs : List Call) : Type 0 where
   pub follows : Follows (reached x cs)
-  pub state : stateOf (reached x cs) ≡ describedBy q cs
+  pub state : stateOf (reached x cs) ≡ statedBy q cs
   pub same : answers q cs ≡ heard x cs
 
 along : (x : Mem) (q : State) (cs : List Call) → Follows x → stateOf x ≡ q → allFit cs ≡ true → Along x q cs
@@ -109,17 +109,17 @@ along x q (c ∷ cs) w s u =
 
 start-made : Follows start × (stateOf start ≡ empty tiny)
 unfolding inRange roomy
-start-made = let m = sets-up tiny blank {a = setUpBy tiny blank .answer} {y = start} refl .made (range-of tiny .sound refl) (room-of tiny blank .sound refl) in (m .1, m .2)
+start-made = let m = sets-up tiny zeros {a = setUpBy tiny zeros .answer} {y = start} refl .made (range-of tiny .sound refl) (room-of tiny zeros .sound refl) in (m .1, m .2)
 
 -- what a past leaves
 pub record Stands (p : Past) : Type 0 where
   pub follows : Follows (memory p)
-  pub state : stateOf (memory p) ≡ described p
+  pub state : stateOf (memory p) ≡ stated p
 
 pub record United (p q : Past) (j : Join) : Type 0 where
   pub here : Stands (took p q j)
   pub there : Stands (gave p q j)
-  pub same : unionAnswer (described p) (described q) j ≡ unionBy (memory p) (memory q) j .answer
+  pub same : unionAnswer (stated p) (stated q) j ≡ unionBy (memory p) (memory q) j .answer
 
 unite : (p q : Past) (j : Join) → Stands p → Stands q → United p q j
 unite p q j s t =
@@ -128,11 +128,11 @@ unite p q j s t =
     record {
       here = record {
         follows = d .follows;
-        state = d .state ∙ ap₂ (λ (a b : State). united a b (unionBy (memory p) (memory q) j .answer)) (s .state) (t .state) ∙ ap (united (described p) (described q)) e;
+        state = d .state ∙ ap₂ (λ (a b : State). united a b (unionBy (memory p) (memory q) j .answer)) (s .state) (t .state) ∙ ap (united (stated p) (stated q)) e;
       };
       there = record {
         follows = d .source-follows;
-        state = d .source-state ∙ ap (λ (b : State). leftover b j (unionBy (memory p) (memory q) j .answer)) (t .state) ∙ ap (leftover (described q) j) e;
+        state = d .source-state ∙ ap (λ (b : State). leftover b j (unionBy (memory p) (memory q) j .answer)) (t .state) ∙ ap (leftover (stated q) j) e;
       };
       same = sym e;
     }
@@ -142,7 +142,7 @@ stands fresh u = record { follows = start-made .0; state = start-made .1 }
 stands (p then cs) u =
     let b = both (pastFits p) (allFit cs) u in
     let s = stands p (b .0) in
-    let k = along (memory p) (described p) cs (s .follows) (s .state) (b .1) in
+    let k = along (memory p) (stated p) cs (s .follows) (s .state) (b .1) in
     record { follows = k .follows; state = k .state }
 stands (took p q j) u = let b = both (pastFits p) (pastFits q) u in unite p q j (stands p (b .0)) (stands q (b .1)) .here
 stands (gave p q j) u = let b = both (pastFits p) (pastFits q) u in unite p q j (stands p (b .0)) (stands q (b .1)) .there
@@ -173,7 +173,7 @@ computed-says : (c : Case) → proper c ≡ true → Says (computed c)
 computed-says (calls p cs rs) u =
     let b = both (pastFits p) (allFit cs) u in
     let s = stands p (b .0) in
-    (along (memory p) (described p) cs (s .follows) (s .state) (b .1) .same, refl)
+    (along (memory p) (stated p) cs (s .follows) (s .state) (b .1) .same, refl)
 computed-says (unites p q j a) u =
     let b = both (pastFits p) (pastFits q) u in
     (unite p q j (stands p (b .0)) (stands q (b .1)) .same, refl)

@@ -13,7 +13,7 @@ use Rattle.layout.specs.Mem.{Mem}
 use Rattle.layout.specs.Meaning.{stateOf}
 use Rattle.layout.specs.Follows.{Follows}
 use Rattle.contracts.specs.Does.{Joins}
-use Rattle.promises.specs.Histories.{Step, set-up, changed, read, planned, marked, marked-ends, Story, made, then, took, gave, remade, lastBy, last, Stepped, Ran, describedBy, described, RightBy, Kept}
+use Rattle.promises.specs.Histories.{Step, set-up, changed, read, planned, marks-set, ends-set, Story, made, then, took, gave, remade, lastBy, last, Stepped, Happened, describedBy, described, RightBy, Kept}
 use Rattle.promises.proofs.SetUps.{fit, set-up-right, set-up-follows, set-up-state}
 
 -- one step
@@ -29,10 +29,10 @@ onward x q (changed c a y) w s d =
     record { follows = r .follows; state = r .state ∙ ap (λ (p : State). after p c) s; right = r .said ∙ ap (λ (p : State). answer p c) s }
 onward x q (read k a) w s d = record { follows = w; state = s; right = d .says w ∙ ap (λ (p : State). reply p k) s }
 onward x q (planned S bs a cs) w s d = record { follows = w; state = s; right = subst (λ (p : State). PlansFor p S bs a cs) s (d .says w) }
-onward x q (marked rs a us) w s d = record { follows = w; state = s; right = subst (λ (p : State). (a ≡ Done) × (us ≡ marks (hits p) rs)) s (d .says w) }
-onward x q (marked-ends los his ms a ns) w s d = record { follows = w; state = s; right = subst (λ (p : State). (a ≡ Done) × (ns ≡ marksIn (hits p) los his ms)) s (d .says w) }
+onward x q (marks-set rs a us) w s d = record { follows = w; state = s; right = subst (λ (p : State). (a ≡ Done) × (us ≡ marks (hits p) rs)) s (d .says w) }
+onward x q (ends-set los his ms a ns) w s d = record { follows = w; state = s; right = subst (λ (p : State). (a ≡ Done) × (ns ≡ marksIn (hits p) los his ms)) s (d .says w) }
 
-pub all-kept : (s : Story) → Ran s → Kept s
+pub all-kept : (s : Story) → Happened s → Kept s
 all-kept (made h x y) r =
     let f = fit h x (r .by) in
     let m = r .made (f .0) (f .1) in

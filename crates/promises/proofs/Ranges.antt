@@ -32,7 +32,7 @@ use Rattle.range_list.proofs.AfterWalk.{any-told}
 use Rattle.range_list.proofs.Upto.{upto}
 use Rattle.range_list.proofs.Columns.{low, high, markOf, columns-are}
 use Rattle.range_list.proofs.Outcomes.{shortest, marks-by-range, ends-by-range}
-use Rattle.promises.specs.Histories.{Story, Ran, last, described}
+use Rattle.promises.specs.Histories.{Story, Happened, last, described}
 use Rattle.promises.proofs.Theorems.{kept, cuts}
 
 differ : {n : ℕ} → Refused n ≡ Done → ⊥
@@ -141,7 +141,7 @@ same-marks-by-partition i rs us a b ns d e = (d .said ∙ sym (e .said), ap (map
 
 -- ---- the history of a set that set-up made
 
-module _ (s : Story) (ran : Ran s) where
+module _ (s : Story) (ran : Happened s) where
   abbrev now : State
   now = described s
 

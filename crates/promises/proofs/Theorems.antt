@@ -45,7 +45,7 @@ use Rattle.unions.proofs.Spares.{union-here-spare, union-there-spare}
 use Rattle.cuts.specs.Plan.{Cut, planBy}
 use Rattle.cuts.specs.Promise.{Plans}
 use Rattle.cuts.proofs.Plans.{plan-refused, plans-by}
-use Rattle.promises.specs.Histories.{Story, Ran, last, described, Kept}
+use Rattle.promises.specs.Histories.{Story, Happened, last, described, Kept}
 use Rattle.promises.specs.Cuts.{Cuts}
 use Rattle.promises.specs.Listings.{Asked, Asking, AllListed}
 use Rattle.promises.specs.Cases.{AllSay, table}
@@ -162,7 +162,7 @@ module _ (x : Mem) (w : Follows x) where
 
 -- ---- demand 2: the history of a set that set-up made
 
-module _ (s : Story) (ran : Ran s) where
+module _ (s : Story) (ran : Happened s) where
   -- memory follows the layout and stands for the set that the accepted calls describe, and every answer was document 01's
   pub kept : Kept s
   kept = all-kept s ran

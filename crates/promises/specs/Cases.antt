@@ -32,14 +32,14 @@ use Rattle.contracts.specs.Does.{Answers}
 abbrev pub tiny : Sizes
 tiny = sizesOf 9 4 2 1 2 1
 
-abbrev pub blank : Mem
-blank = mem (replicate 8 0) (replicate 8 0) (replicate 1 0) (replicate 26 0)
+abbrev pub zeros : Mem
+zeros = mem (replicate 8 0) (replicate 8 0) (replicate 1 0) (replicate 26 0)
 
 -- ---- calls one after the other: by document 01's words, and by the models of the contracts
 
-abbrev pub describedBy : State → List Call → State
-describedBy q [] = q
-describedBy q (c ∷ cs) = describedBy (after q c) cs
+abbrev pub statedBy : State → List Call → State
+statedBy q [] = q
+statedBy q (c ∷ cs) = statedBy (after q c) cs
 
 abbrev pub answers : State → List Call → List Said
 answers q [] = []
@@ -55,7 +55,7 @@ heard x (c ∷ cs) = ranBy x c .answer ∷ heard (ranBy x c .after) cs
 
 -- a fresh set
 abbrev pub start : Mem
-start = setUpBy tiny blank .after
+start = setUpBy tiny zeros .after
 
 -- ---- how a set came about, and what it then is: by document 01's words, and by the models
 
@@ -69,11 +69,11 @@ pub data Past : Type 0 where
   took : Past → Past → Join → Past
   gave : Past → Past → Join → Past
 
-abbrev pub described : Past → State
-described fresh = empty tiny
-described (p then cs) = describedBy (described p) cs
-described (took p q j) = united (described p) (described q) (unionAnswer (described p) (described q) j)
-described (gave p q j) = leftover (described q) j (unionAnswer (described p) (described q) j)
+abbrev pub stated : Past → State
+stated fresh = empty tiny
+stated (p then cs) = statedBy (stated p) cs
+stated (took p q j) = united (stated p) (stated q) (unionAnswer (stated p) (stated q) j)
+stated (gave p q j) = leftover (stated q) j (unionAnswer (stated p) (stated q) j)
 
 abbrev pub memory : Past → Mem
 memory fresh = start
@@ -101,13 +101,13 @@ pub data Case : Type 0 where
 
 -- by the plain set, and by every answer that the contracts allow
 abbrev pub Says : Case → Type 0
-Says (calls p cs rs) = (answers (described p) cs ≡ rs) × (heard (memory p) cs ≡ rs)
-Says (unites p q j a) = (unionAnswer (described p) (described q) j ≡ a) × (unionBy (memory p) (memory q) j .answer ≡ a)
-Says (asks p k r) = (reply (described p) k ≡ r) × ((a : Said) → Answers (memory p) k a → a ≡ r)
-Says (kind p c k) = (described p .map c ≡ k) × (kinds (memory p) c ≡ k)
+Says (calls p cs rs) = (answers (stated p) cs ≡ rs) × (heard (memory p) cs ≡ rs)
+Says (unites p q j a) = (unionAnswer (stated p) (stated q) j ≡ a) × (unionBy (memory p) (memory q) j .answer ≡ a)
+Says (asks p k r) = (reply (stated p) k ≡ r) × ((a : Said) → Answers (memory p) k a → a ≡ r)
+Says (kind p c k) = (stated p .map c ≡ k) × (kinds (memory p) c ≡ k)
 Says (row p r o) = rowOwner tiny (memory p .table) r ≡ o
 Says (page p n o) = pageOwner tiny (memory p .table) n ≡ o
-Says (whole p x) = (described p ≡ stateOf x) × (memory p ≡ x)
+Says (whole p x) = (stated p ≡ stateOf x) × (memory p ≡ x)
 Says (plain c) = PlainSays c
 
 abbrev pub AllSay : List Case → Type 0

@@ -30,8 +30,8 @@ pub data Step : Type 0 where
   changed : Call → Said → Mem → Step
   read : Ask → Said → Step
   planned : ℕ → List ℤ → Planning → List ℤ → Step
-  marked : List Range → Outcome → List Range → Step
-  marked-ends : List ℤ → List ℤ → List ℕ → Outcome → List ℕ → Step
+  marks-set : List Range → Outcome → List Range → Step
+  ends-set : List ℤ → List ℤ → List ℕ → Outcome → List ℕ → Step
 
 -- one set's history
 pub data Story : Type 0 where
@@ -50,8 +50,8 @@ lastBy x (set-up h a y) = y
 lastBy x (changed c a y) = y
 lastBy x (read k a) = x
 lastBy x (planned S bs a cs) = x
-lastBy x (marked rs a us) = x
-lastBy x (marked-ends los his ms a ns) = x
+lastBy x (marks-set rs a us) = x
+lastBy x (ends-set los his ms a ns) = x
 
 abbrev pub last : Story → Mem
 last (made h x y) = y
@@ -65,14 +65,14 @@ Stepped x (set-up h a y) = SetsUp h x a y
 Stepped x (changed c a y) = Does x c a y
 Stepped x (read k a) = Answers x k a
 Stepped x (planned S bs a cs) = Plans x S bs a cs
-Stepped x (marked rs a us) = MarksByRange x rs a us
-Stepped x (marked-ends los his ms a ns) = EndsByRange x los his ms a ns
+Stepped x (marks-set rs a us) = MarksByRange x rs a us
+Stepped x (ends-set los his ms a ns) = EndsByRange x los his ms a ns
 
-abbrev pub Ran : Story → Type 0
-Ran (made h x y) = SetsUp h x Done y
-Ran (then s t) = Ran s × Stepped (last s) t
-Ran (took s t j a x y) = Ran s × Ran t × Joins (last s) (last t) j a x y
-Ran (gave s t j a x y) = Ran s × Ran t × Joins (last s) (last t) j a x y
+abbrev pub Happened : Story → Type 0
+Happened (made h x y) = SetsUp h x Done y
+Happened (then s t) = Happened s × Stepped (last s) t
+Happened (took s t j a x y) = Happened s × Happened t × Joins (last s) (last t) j a x y
+Happened (gave s t j a x y) = Happened s × Happened t × Joins (last s) (last t) j a x y
 
 -- ---- by document 01's words alone
 
@@ -86,8 +86,8 @@ describedBy q (set-up h a y) = remade q h a
 describedBy q (changed c a y) = after q c
 describedBy q (read k a) = q
 describedBy q (planned S bs a cs) = q
-describedBy q (marked rs a us) = q
-describedBy q (marked-ends los his ms a ns) = q
+describedBy q (marks-set rs a us) = q
+describedBy q (ends-set los his ms a ns) = q
 
 -- the set after it
 abbrev pub described : Story → State
@@ -108,8 +108,8 @@ RightBy x q (set-up h a y) = RightSetUp h x a
 RightBy x q (changed c a y) = a ≡ answer q c
 RightBy x q (read k a) = a ≡ reply q k
 RightBy x q (planned S bs a cs) = PlansFor q S bs a cs
-RightBy x q (marked rs a us) = (a ≡ Done) × (us ≡ marks (hits q) rs)
-RightBy x q (marked-ends los his ms a ns) = (a ≡ Done) × (ns ≡ marksIn (hits q) los his ms)
+RightBy x q (marks-set rs a us) = (a ≡ Done) × (us ≡ marks (hits q) rs)
+RightBy x q (ends-set los his ms a ns) = (a ≡ Done) × (ns ≡ marksIn (hits q) los his ms)
 
 abbrev pub AllRight : Story → Type 0
 AllRight (made h x y) = Unit

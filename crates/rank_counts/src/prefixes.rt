@@ -6,7 +6,7 @@ ghost use Rattle.sums.specs.Sums.{sumTo};
 ghost use Rattle.document.specs.Sizes.{InRange};
 ghost use Rattle.layout.specs.Sizes.{wide, overCount};
 ghost use Rattle.layout.specs.Entries.{entries, placeAt};
-ghost use Rattle.ranks.specs.Form.{prefixed, marked};
+ghost use Rattle.ranks.specs.Form.{prefixed, headed};
 ghost use Rattle.rank_counts.specs.Counts.{entrySize, BlocksCounted, Inside, Places};
 use crate::blocks;
 use document::sizes::Sizes;
@@ -70,7 +70,7 @@ pub fn clear_prefixes(h: Sizes, table: &mut [u64])
 
 // The mode and the total.
 pub fn mark(table: &mut [u64], mode: u64, total: u64)
-    ensures { λ _. ⌜ now (table .exit) ≡ marked (now (table .entry)) mode total ⌝ }
+    ensures { λ _. ⌜ now (table .exit) ≡ headed (now (table .entry)) mode total ⌝ }
 {
     head::put_total(table, total);
     head::put_mode(table, mode);

@@ -15,7 +15,7 @@ use Rattle.document.specs.declared.answer.Amount.the-variants as amount
 use Rattle.document.specs.declared.answer.Perhaps.{Perhaps}
 use Rattle.document.specs.declared.answer.Perhaps.the-variants as perhaps
 use Rattle.calls.specs.Reading.{spotBy, hasAt}
-use Rattle.ranks.specs.Rank.{belowAt, plus, rankSeat, rankSplit, ifRanked, rankBy, perhapsOf, ifThere, rankIfSeat, rankIfSplit, rankIfBy, totalBy}
+use Rattle.ranks.specs.Rank.{belowAt, plusBefore, rankSeat, rankSplit, ifRanked, rankBy, perhapsOf, ifThere, rankIfSeat, rankIfSplit, rankIfBy, totalBy}
 use Rattle.layout.specs.declared.seat.Seat.{Seat}
 use Rattle.layout.specs.declared.seat.Seat.the-variants as seat
 use Rattle.ranked.specs.Modes.{formIn}
@@ -30,12 +30,12 @@ use Rattle.ranked.proofs.Modes.{byForm, form-way}
 -- ---- by a chunk's seat
 
 module _ (x : Mem) (o : ℕ) (q : Seat) (w first : ℕ) (e : seat.At w first ≡ q) where
-  pub rank-seat : (a r : Amount) → a ≡ belowAt x o (spotBy x w) → r ≡ plus first a → r ≡ rankSeat x o q
-  rank-seat a r f g = g ∙ (ap (plus first) f ∙ ap (rankSeat x o) e)
+  pub rank-seat : (a r : Amount) → a ≡ belowAt x o (spotBy x w) → r ≡ plusBefore first a → r ≡ rankSeat x o q
+  rank-seat a r f g = g ∙ (ap (plusBefore first) f ∙ ap (rankSeat x o) e)
 
   module _ (t : Truth) (f : t ≡ hasAt x o (spotBy x w)) where
     by-member : Truth → Perhaps
-    by-member d = ifThere d (perhapsOf (plus first (belowAt x o (spotBy x w))))
+    by-member d = ifThere d (perhapsOf (plusBefore first (belowAt x o (spotBy x w))))
 
     member-is : by-member t ≡ rankIfSeat x o q
     unfolding by-member
@@ -50,10 +50,10 @@ module _ (x : Mem) (o : ℕ) (q : Seat) (w first : ℕ) (e : seat.At w first ≡
       unfolding by-member
       seat-none h = ap (λ (d : Bool). by-member (truth.Is d)) (sym (not-true b h)) ∙ ap by-member (sym g) ∙ member-is
 
-      pub seat-member : not b ≡ false → (a r : Amount) (p : Perhaps) → a ≡ belowAt x o (spotBy x w) → r ≡ plus first a → p ≡ perhapsOf r → p ≡ rankIfSeat x o q
+      pub seat-member : not b ≡ false → (a r : Amount) (p : Perhaps) → a ≡ belowAt x o (spotBy x w) → r ≡ plusBefore first a → p ≡ perhapsOf r → p ≡ rankIfSeat x o q
       unfolding by-member
       seat-member h a r p i j k =
-          k ∙ ap perhapsOf (j ∙ ap (plus first) i)
+          k ∙ ap perhapsOf (j ∙ ap (plusBefore first) i)
           ∙ ap (λ (d : Bool). by-member (truth.Is d)) (sym (not-false b h)) ∙ ap by-member (sym g) ∙ member-is
 
 -- ---- the calls

@@ -17,7 +17,7 @@ use Rattle.document.specs.declared.answer.Amount.the-variants.{Of, Refused}
 use Rattle.layout.specs.declared.find.Spot.{Spot}
 use Rattle.layout.specs.declared.find.Spot.the-variants.{Row}
 use Rattle.calls.specs.Reading.{spotBy}
-use Rattle.ranks.specs.Rank.{inPage, belowAt, plus}
+use Rattle.ranks.specs.Rank.{inPage, belowAt, plusBefore}
 use Rattle.ranked.specs.Small.{Small}
 use Rattle.layout.proofs.Lent.{span}
 use Rattle.calls.proofs.Spots.{InRows}
@@ -61,8 +61,8 @@ module _ (n : ℕ) (a : Amount) where
   pub small-of : (k : ℕ) → a ≡ Of k → Small a → k < 2 ^ 63
   small-of k e s = subst Small e s
 
-  pub plus-of : (k : ℕ) → a ≡ Of k → n < 2 ^ 63 → Of (n + k) ≡ plus n a
-  plus-of k e l = ap (λ (b : Bool). cond b (Of (n + k)) (Refused not-laid-out)) (sym (lt-ltb n (2 ^ 63) l)) ∙ ap (plus n) (sym e)
+  pub plus-of : (k : ℕ) → a ≡ Of k → n < 2 ^ 63 → Of (n + k) ≡ plusBefore n a
+  plus-of k e l = ap (λ (b : Bool). cond b (Of (n + k)) (Refused not-laid-out)) (sym (lt-ltb n (2 ^ 63) l)) ∙ ap (plusBefore n) (sym e)
 
-  pub plus-large : (k : ℕ) → a ≡ Of k → 2 ^ 63 ≤ n → Refused not-laid-out ≡ plus n a
-  plus-large k e l = ap (λ (b : Bool). cond b (Of (n + k)) (Refused not-laid-out)) (sym (le-ltb n (2 ^ 63) l)) ∙ ap (plus n) (sym e)
+  pub plus-large : (k : ℕ) → a ≡ Of k → 2 ^ 63 ≤ n → Refused not-laid-out ≡ plusBefore n a
+  plus-large k e l = ap (λ (b : Bool). cond b (Of (n + k)) (Refused not-laid-out)) (sym (le-ltb n (2 ^ 63) l)) ∙ ap (plusBefore n) (sym e)

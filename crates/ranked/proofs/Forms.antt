@@ -18,7 +18,7 @@ use Rattle.layout.specs.declared.place.Place.{Place}
 use Rattle.layout.specs.declared.place.Place.the-variants.{Absent, Sparse, Dense}
 use Rattle.document.specs.declared.answer.Outcome.{Outcome}
 use Rattle.document.specs.declared.answer.Outcome.the-variants.{Done, Refused}
-use Rattle.ranks.specs.Form.{prefixed, marked, blockedTo, toRanked, toOpen, rankUpBy, openBy}
+use Rattle.ranks.specs.Form.{prefixed, headed, blockedTo, toRanked, toOpen, rankUpBy, openBy}
 use Rattle.ranked.specs.Modes.{formOf}
 use Rattle.rank_counts.specs.Counts.{entrySize, Inside, Places}
 use Rattle.document.specs.Calls.{rank-up, leave, that}
@@ -45,13 +45,13 @@ walked-over w = let z = w .sizes in let f = w .over-fits in omega arith
 -- ---- what is written
 
 pub all-counted : (h : Sizes) (x : Mem) (bl t u : List ℕ) (n : ℕ) → bl ≡ blockedTo h (x .pages) (x .blocks) (h .p) → n ≡ sumTo (entrySize h (x .pages) (x .table)) (entries h (x .table))
-    → t ≡ prefixed h (x .table) (sumTo (entrySize h (x .pages) (x .table))) (entries h (x .table)) → u ≡ marked t 1 n → mem (x .pages) (x .rows) bl u ≡ toRanked h x
+    → t ≡ prefixed h (x .table) (sumTo (entrySize h (x .pages) (x .table))) (entries h (x .table)) → u ≡ headed t 1 n → mem (x .pages) (x .rows) bl u ≡ toRanked h x
 unfolding toRanked entrySize membersAt
-all-counted h x bl t u n eb en et eu = ap₂ (λ (b v : List ℕ). mem (x .pages) (x .rows) b v) eb (eu ∙ ap₂ (λ (v : List ℕ) (k : ℕ). marked v 1 k) et en)
+all-counted h x bl t u n eb en et eu = ap₂ (λ (b v : List ℕ). mem (x .pages) (x .rows) b v) eb (eu ∙ ap₂ (λ (v : List ℕ) (k : ℕ). headed v 1 k) et en)
 
-pub all-cleared : (h : Sizes) (x : Mem) (a : ℕ) (bl t u : List ℕ) → a ≡ h .p * blocksOf h → bl ≡ zeroed a (x .blocks) → t ≡ prefixed h (x .table) (λ (_ : ℕ). 0) (entries h (x .table)) → u ≡ marked t 0 0 → mem (x .pages) (x .rows) bl u ≡ toOpen h x
+pub all-cleared : (h : Sizes) (x : Mem) (a : ℕ) (bl t u : List ℕ) → a ≡ h .p * blocksOf h → bl ≡ zeroed a (x .blocks) → t ≡ prefixed h (x .table) (λ (_ : ℕ). 0) (entries h (x .table)) → u ≡ headed t 0 0 → mem (x .pages) (x .rows) bl u ≡ toOpen h x
 unfolding toOpen
-all-cleared h x a bl t u ea eb et eu = ap₂ (λ (b v : List ℕ). mem (x .pages) (x .rows) b v) (eb ∙ ap (λ (k : ℕ). zeroed k (x .blocks)) ea) (eu ∙ ap (λ (v : List ℕ). marked v 0 0) et)
+all-cleared h x a bl t u ea eb et eu = ap₂ (λ (b v : List ℕ). mem (x .pages) (x .rows) b v) (eb ∙ ap (λ (k : ℕ). zeroed k (x .blocks)) ea) (eu ∙ ap (λ (v : List ℕ). headed v 0 0) et)
 
 -- ---- the answers
 

@@ -6,7 +6,7 @@ ghost use lib.ListN.{length};
 ghost use Rattle.layout.specs.Mem.{mem, memOf};
 ghost use Rattle.layout.specs.Sizes.{headerAt};
 ghost use Rattle.calls.specs.Reading.{spotBy};
-ghost use Rattle.ranks.specs.Rank.{inPage, belowAt, plus};
+ghost use Rattle.ranks.specs.Rank.{inPage, belowAt, plusBefore};
 ghost use Rattle.ranked.specs.Small.{Small};
 use dense::block;
 use document::answer::Amount;
@@ -57,7 +57,7 @@ pub fn below(
 // The members of the chunks before, and those within; a prefix that no call wrote may be too large.
 pub fn after(before: u64, within: Amount) -> Amount
     requires { ⌜ Small within ⌝ }
-    ensures { λ r. ⌜ r ≡ plus before within ⌝ }
+    ensures { λ r. ⌜ r ≡ plusBefore before within ⌝ }
 {
     match within {
         Amount::Refused(c) => Amount::Refused(c),

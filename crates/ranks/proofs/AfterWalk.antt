@@ -29,7 +29,7 @@ use Rattle.layout_laws.proofs.Sizes.{blocks-wide, blocks-top, slot-inside}
 use Rattle.layout_laws.proofs.Short.{owned-of, spot-is}
 use Rattle.layout_laws.proofs.Walked.{first-fits}
 use Rattle.calls.specs.Reading.{spotBy, shiftOk}
-use Rattle.ranks.specs.Rank.{inPage, belowAt, plus, rankSeat, rankSplit, rankBy, belowPlace, rankIn}
+use Rattle.ranks.specs.Rank.{inPage, belowAt, plusBefore, rankSeat, rankSplit, rankBy, belowPlace, rankIn}
 use Rattle.ranks.proofs.Seats.{seat-is}
 
 module _ {x : Mem} (w : Walked x (head x)) where
@@ -67,12 +67,12 @@ module _ {x : Mem} (w : Walked x (head x)) where
     o = n % top (head x)
 
     -- what the chunk's seat says
-    pub seat-told : plus (firstRank x (n / top (head x))) (belowAt x (n % top (head x)) (spotBy x (wordOf (head x) (x .table) (n / top (head x))))) ≡ amount.Of (rankIn x n)
+    pub seat-told : plusBefore (firstRank x (n / top (head x))) (belowAt x (n % top (head x)) (spotBy x (wordOf (head x) (x .table) (n / top (head x))))) ≡ amount.Of (rankIn x n)
     unfolding rankIn
     seat-told =
         let below = belowPlace x o (placeOf (head x) (x .table) c) in
-        ap (λ (q : Spot). plus (firstRank x c) (belowAt x o q)) (spot-is w c)
-        ∙ ap (plus (firstRank x c)) (below-told c o (mod-lt n (pow-pos (head x .s))) (placeOf (head x) (x .table) c) (owned-of w c))
+        ap (λ (q : Spot). plusBefore (firstRank x c) (belowAt x o q)) (spot-is w c)
+        ∙ ap (plusBefore (firstRank x c)) (below-told c o (mod-lt n (pow-pos (head x .s))) (placeOf (head x) (x .table) c) (owned-of w c))
         ∙ ap (λ (b : Bool). cond b (amount.Of (firstRank x c + below)) (amount.Refused 3)) (lt-ltb (firstRank x c) (2 ^ 63) (first-fits w r c))
 
     pub split-told : rankSplit x (splitOf (head x .s) (pos n)) ≡ amount.Of (rankIn x n)

@@ -12,7 +12,7 @@ use Rattle.layout.specs.Entries.{entries, chunkAt, wordAt, prefixAt, prefixPlac
 use Rattle.document.specs.declared.sizes.Sizes.{Sizes}
 use Rattle.layout.proofs.Entries.{place-below, place-past}
 use Rattle.layout_laws.proofs.Entries.{Which, direct, over, which, chunk-direct, chunk-over, word-direct, word-over}
-use Rattle.ranks.specs.Form.{prefixed, marked}
+use Rattle.ranks.specs.Form.{prefixed, headed}
 
 -- ---- where prefixes stand
 
@@ -109,16 +109,16 @@ module _ (h : Sizes) where
 -- ---- header words 6 and 8
 
 module _ (t : List ℕ) (mode total : ℕ) where
-  pub marked-length : length (marked t mode total) ≡ length t
+  pub marked-length : length (headed t mode total) ≡ length t
   marked-length = length-set (set t 8 total) 6 mode ∙ length-set t 8 total
 
-  pub marked-mode : 6 < length t → modeAt (marked t mode total) ≡ mode
+  pub marked-mode : 6 < length t → modeAt (headed t mode total) ≡ mode
   marked-mode l = getD-set-same (set t 8 total) 6 mode 0 (let a = length-set t 8 total in omega arith)
 
-  pub marked-total : 8 < length t → totalAt (marked t mode total) ≡ total
+  pub marked-total : 8 < length t → totalAt (headed t mode total) ≡ total
   marked-total l = getD-set-other (set t 8 total) 6 8 mode 0 (omega arith) ∙ getD-set-same t 8 total 0 l
 
-  pub marked-other : (i : ℕ) → i ≢ 6 → i ≢ 8 → getD (marked t mode total) i 0 ≡ getD t i 0
+  pub marked-other : (i : ℕ) → i ≢ 6 → i ≢ 8 → getD (headed t mode total) i 0 ≡ getD t i 0
   marked-other i a b = getD-set-other (set t 8 total) 6 i mode 0 a ∙ getD-set-other t 8 i total 0 b
 
 -- ---- both
@@ -140,17 +140,17 @@ module _ (h : Sizes) (t : List ℕ) (f : ℕ → ℕ) (mode total : ℕ) (l : ov
   abbrev n : ℕ
   n = entries h t
 
-  elsewhere : (i : ℕ) → i ≢ 6 → i ≢ 8 → ((e : ℕ) → e < n → prefixPlace h e ≢ i) → getD (marked (prefixed h t f n) mode total) i 0 ≡ getD t i 0
+  elsewhere : (i : ℕ) → i ≢ 6 → i ≢ 8 → ((e : ℕ) → e < n → prefixPlace h e ≢ i) → getD (headed (prefixed h t f n) mode total) i 0 ≡ getD t i 0
   elsewhere i a b d = marked-other (prefixed h t f n) mode total i a b ∙ prefixed-other h t f n i d
 
-  at-prefix : (e : ℕ) → e < n → prefixAt h (marked (prefixed h t f n) mode total) e ≡ f e
+  at-prefix : (e : ℕ) → e < n → prefixAt h (headed (prefixed h t f n) mode total) e ≡ f e
   unfolding prefixAt
   at-prefix e m =
       let a = place-low h e in
       let b = place-high h (overCount t) e m in
       marked-other (prefixed h t f n) mode total (prefixPlace h e) (omega arith) (omega arith) ∙ prefixed-at h t f n e m (omega arith)
 
-  pub recounted : Recounted h t (marked (prefixed h t f n) mode total) mode total f
+  pub recounted : Recounted h t (headed (prefixed h t f n) mode total) mode total f
   recounted =
       let a = prefixed-length h t f n in
       record {

@@ -27,7 +27,7 @@ use Rattle.layout_laws.proofs.Members.{listed-of, count-rank}
 use Rattle.layout_laws.proofs.Ranks.{first-rank, total-rank}
 use Rattle.calls.specs.Reading.{spotBy, hasAt}
 use Rattle.calls.proofs.Readings.{has-at}
-use Rattle.ranks.specs.Rank.{belowAt, plus, rankSplit, ifRanked, rankBy, perhapsOf, ifThere, rankIfSeat, rankIfSplit, rankIfBy, totalBy, rankIn}
+use Rattle.ranks.specs.Rank.{belowAt, plusBefore, rankSplit, ifRanked, rankBy, perhapsOf, ifThere, rankIfSeat, rankIfSplit, rankIfBy, totalBy, rankIn}
 use Rattle.document.specs.Answers.{perhapsRank, rankAnswer, rankIfAnswer, totalAnswer}
 use Rattle.ranks.proofs.Seats.{seat-is}
 use Rattle.ranks.proofs.Within.{below-is}
@@ -63,7 +63,7 @@ module _ {x : Mem} (w : Follows x) where
           ∙ sym (count-rank w n)
 
       -- what the chunk's seat says
-      rank-at : plus (firstRank x c) (belowAt x o (spotBy x (wordOf (head x) (x .table) c))) ≡ amount.Of (count (holds x) n)
+      rank-at : plusBefore (firstRank x c) (belowAt x o (spotBy x (wordOf (head x) (x .table) c))) ≡ amount.Of (count (holds x) n)
       rank-at = seat-told (laid-walked w) r n ∙ ap amount.Of in-count
 
       has-here : hasAt x o (spotBy x (wordOf (head x) (x .table) c)) ≡ truth.Is (holds x n)

@@ -18,7 +18,7 @@ use Rattle.layout.specs.Sizes.{blocksOf, overAt, rowOwnersAt, pageOwnersAt, hea
 use Rattle.layout.specs.Places.{decoded, hasRow, hasPage, pagePart, rowOwner, pageOwner}
 use Rattle.layout.specs.Entries.{entries, chunkAt, wordAt, placeAt, beside, wordOf, placeOf}
 use Rattle.layout.specs.Meaning.{offsets, holds, kindOf, kinds, ranked}
-use Rattle.layout.specs.Follows.{Key, Owned, RowListed, sizeOf, membersAt, kept, Laid, Follows}
+use Rattle.layout.specs.Follows.{Key, Owned, RowListed, sizeOf, membersAt, whenRanked, Laid, Follows}
 use Rattle.document.specs.declared.sizes.Sizes.{Sizes}
 use Rattle.layout.specs.declared.place.Place.{Place}
 use Rattle.layout.specs.declared.place.Place.the-variants.{Absent, Sparse, Dense}
@@ -71,7 +71,7 @@ module _ {h : Sizes} {x : Mem} {b : Bool} {bl u : List ℕ} (r : Recount h x b b
   pub mode-is : ranked y ≡ b
   mode-is = ap (λ (m : ℕ). eqb m 1) (r .told .mode) ∙ is-one b
 
-  kept-is : (n k : ℕ) → n ≡ k → cond b n 0 ≡ kept y k
+  kept-is : (n k : ℕ) → n ≡ k → cond b n 0 ≡ whenRanked y k
   kept-is n k e = ap (λ (i : ℕ). cond b i 0) e ∙ ap (λ (a : Bool). cond a k 0) (sym mode-is)
 
   -- ---- owners

@@ -16,19 +16,19 @@ use Rattle.layout.specs.Mem.{Mem, mem}
 use Rattle.layout.specs.Sizes.{blocksOf, head, modeAt}
 use Rattle.layout.specs.Entries.{entries, prefixAt, prefixPlace}
 use Rattle.layout.specs.Meaning.{ranked}
-use Rattle.layout.specs.Follows.{membersAt, kept, Follows}
+use Rattle.layout.specs.Follows.{membersAt, whenRanked, Follows}
 use Rattle.layout.specs.SetUp.{zeroed}
 use Rattle.layout_laws.proofs.Keys.{Sought, found, missed, seek}
 use Rattle.layout_laws.proofs.Walked.{laid-walked}
 use Rattle.layout.proofs.Zeroed.{zeroed-at, zeroed-past, zeroed-length}
-use Rattle.ranks.specs.Form.{prefixed, marked, blockedTo, toRanked, toOpen}
+use Rattle.ranks.specs.Form.{prefixed, headed, blockedTo, toRanked, toOpen}
 use Rattle.ranks.proofs.Prefixes.{Recounted, recounted, over-same}
 use Rattle.ranks.proofs.Blocks.{blocks-length, blocks-past}
 use Rattle.ranks.proofs.Forms.{entries-inside}
 
 module _ {x : Mem} (w : Follows x) (o : ranked x ≡ false) where
   -- an open set keeps no counts
-  not-kept : (n : ℕ) → kept x n ≡ 0
+  not-kept : (n : ℕ) → whenRanked x n ≡ 0
   not-kept n = ap (λ (b : Bool). cond b n 0) o
 
   mode-open : modeAt (x .table) ≡ 0
@@ -94,5 +94,5 @@ module _ {x : Mem} (w : Follows x) (o : ranked x ≡ false) where
       let a = recounted (head x) (x .table) f 1 (f n) i in
       let s = a .long in
       let c = over-same a in
-      let b = recounted (head x) (marked (prefixed (head x) (x .table) f n) 1 (f n)) (λ (_ : ℕ). 0) 0 0 (omega arith) in
+      let b = recounted (head x) (headed (prefixed (head x) (x .table) f n) 1 (f n)) (λ (_ : ℕ). 0) 0 0 (omega arith) in
       ap₂ (λ (bl t : List ℕ). mem (x .pages) (x .rows) bl t) blocks-back (table-back a b)

@@ -11,7 +11,7 @@ use Rattle.layout.specs.Sizes.{directAt, overAt, head, overCount, totalAt}
 use Rattle.layout.specs.Entries.{entries, prefixAt, wordOf}
 use Rattle.layout.specs.Tests.{Walked}
 use Rattle.layout.specs.Short.{keyAt, overPlace}
-use Rattle.layout_laws.specs.Chunks.{entryFrom, firstRank}
+use Rattle.layout_laws.specs.Chunks.{firstEntry, firstRank}
 use Rattle.layout_laws.proofs.Entries.{walked-ordered, word-direct, word-of-direct, prefix-direct, prefix-over}
 use Rattle.layout_laws.proofs.Short.{over-word-is, entries-inside}
 use Rattle.layout.specs.Seat.{directSeat, overSeat, overflowSeat, seatIn}
@@ -23,7 +23,7 @@ module _ {x : Mem} (w : Walked x (head x)) (c : ℕ) where
   from-entry e = cond (ltb e (entries (head x) (x .table))) (prefixAt (head x) (x .table) e) (totalAt (x .table))
 
   first-direct : c < head x .d → firstRank x c ≡ getD (x .table) (directAt c + 1) 0
-  unfolding firstRank entryFrom from-entry
+  unfolding firstRank firstEntry from-entry
   first-direct l =
       ap (λ (b : Bool). from-entry (cond b c (head x .d + overPlace (x .table) (16 + 2 * head x .d) (overCount (x .table)) c))) (lt-ltb c (head x .d) l)
       ∙ ap (λ (b : Bool). cond b (prefixAt (head x) (x .table) c) (totalAt (x .table))) (lt-ltb c (entries (head x) (x .table)) (omega arith))
@@ -37,7 +37,7 @@ module _ {x : Mem} (w : Walked x (head x)) (c : ℕ) where
     own = getD (x .table) (16 + 2 * head x .d + 3 * k + 1) 0
 
     first-over : firstRank x c ≡ from-entry (head x .d + k)
-    unfolding firstRank entryFrom from-entry
+    unfolding firstRank firstEntry from-entry
     first-over = ap (λ (b : Bool). from-entry (cond b c (head x .d + k))) (le-ltb c (head x .d) l)
 
     first-there : k < overCount (x .table) → firstRank x c ≡ getD (x .table) (overAt (head x) k + 2) 0

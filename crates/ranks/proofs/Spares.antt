@@ -17,7 +17,7 @@ use Rattle.document.specs.declared.sizes.Sizes.{Sizes}
 use Rattle.document.specs.declared.answer.Outcome.the-variants.{Done, Refused}
 use Rattle.layout.proofs.Tests.{walked-of}
 use Rattle.layout_laws.proofs.Spares.{beyond-same, beyond-then, header-beyond, prefix-beyond, zeroed-beyond, spare-same, spare-if}
-use Rattle.ranks.specs.Form.{prefixed, marked, blockedTo, toRanked, toOpen, rankUpBy, openBy}
+use Rattle.ranks.specs.Form.{prefixed, headed, blockedTo, toRanked, toOpen, rankUpBy, openBy}
 use Rattle.ranks.proofs.Blocks.{blocks-length, blocks-past}
 
 -- ---- the writes
@@ -28,7 +28,7 @@ module _ (h : Sizes) (t : List ℕ) where
   prefixed-beyond f zero l = beyond-same
   prefixed-beyond f (suc e) l = beyond-then (prefixed-beyond f e (omega arith)) (prefix-beyond h (prefixed h t f e) e (f e) (omega arith))
 
-  pub marked-beyond : (mode total : ℕ) → Beyond (tableSize h) t (marked t mode total)
+  pub marked-beyond : (mode total : ℕ) → Beyond (tableSize h) t (headed t mode total)
   marked-beyond mode total = beyond-then (header-beyond h t 8 total (omega arith)) (header-beyond h (set t 8 total) 6 mode (omega arith))
 
 pub blocked-beyond : (h : Sizes) (pages blocks : List ℕ) (n : ℕ) → Beyond (n * blocksOf h) blocks (blockedTo h pages blocks n)
@@ -37,7 +37,7 @@ blocked-beyond h pages blocks n = record { long = blocks-length h pages blocks n
 -- ---- both forms
 
 module _ (h : Sizes) (x : Mem) (fits : overCount (x .table) ≤ h .v) where
-  table-beyond : (f : ℕ → ℕ) (mode total : ℕ) → Beyond (tableSize h) (x .table) (marked (prefixed h (x .table) f (entries h (x .table))) mode total)
+  table-beyond : (f : ℕ → ℕ) (mode total : ℕ) → Beyond (tableSize h) (x .table) (headed (prefixed h (x .table) f (entries h (x .table))) mode total)
   table-beyond f mode total =
       let n = entries h (x .table) in
       beyond-then (prefixed-beyond h (x .table) f n (omega arith)) (marked-beyond h (prefixed h (x .table) f n) mode total)

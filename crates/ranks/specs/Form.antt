@@ -24,8 +24,8 @@ prefixed h t f zero = t
 prefixed h t f (suc e) = set (prefixed h t f e) (prefixPlace h e) (f e)
 
 -- the mode and the members in all
-abbrev pub marked : List ℕ → ℕ → ℕ → List ℕ
-marked t mode total = putMode (putTotal t total) mode
+abbrev pub headed : List ℕ → ℕ → ℕ → List ℕ
+headed t mode total = putMode (putTotal t total) mode
 
 -- the counts of blocks 0 to n - 1 of page p, written from its place on
 unfoldable pub blocked : Sizes → List ℕ → List ℕ → ℕ → ℕ → List ℕ
@@ -40,12 +40,12 @@ blockedTo h pages blocks (suc p) = blocked h pages (blockedTo h pages blocks p) 
 unfoldable pub toRanked : Sizes → Mem → Mem
 toRanked h x =
     mem (x .pages) (x .rows) (blockedTo h (x .pages) (x .blocks) (h .p))
-    (marked (prefixed h (x .table) (sumTo (membersAt h x)) (entries h (x .table))) 1 (sumTo (membersAt h x) (entries h (x .table))))
+    (headed (prefixed h (x .table) (sumTo (membersAt h x)) (entries h (x .table))) 1 (sumTo (membersAt h x) (entries h (x .table))))
 
 unfoldable pub toOpen : Sizes → Mem → Mem
 toOpen h x =
     mem (x .pages) (x .rows) (zeroed (h .p * blocksOf h) (x .blocks))
-    (marked (prefixed h (x .table) (λ (_ : ℕ). 0) (entries h (x .table))) 0 0)
+    (headed (prefixed h (x .table) (λ (_ : ℕ). 0) (entries h (x .table))) 0 0)
 
 -- 3, then 4
 unfoldable pub rankUpBy : Mem → Did

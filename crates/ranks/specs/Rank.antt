@@ -47,12 +47,12 @@ belowAt x o (Page a n) = inPage x a n o
 belowAt x o Bad = amount.Refused not-laid-out
 
 -- a prefix that no call wrote may be as large as a word
-abbrev pub plus : ℕ → Amount → Amount
-plus n (amount.Of k) = cond (ltb n (2 ^ 63)) (amount.Of (n + k)) (amount.Refused not-laid-out)
-plus n (amount.Refused c) = amount.Refused c
+abbrev pub plusBefore : ℕ → Amount → Amount
+plusBefore n (amount.Of k) = cond (ltb n (2 ^ 63)) (amount.Of (n + k)) (amount.Refused not-laid-out)
+plusBefore n (amount.Refused c) = amount.Refused c
 
 abbrev pub rankSeat : Mem → ℕ → Seat → Amount
-rankSeat x o (seat.At w before) = plus before (belowAt x o (spotBy x w))
+rankSeat x o (seat.At w before) = plusBefore before (belowAt x o (spotBy x w))
 rankSeat x o seat.Bad = amount.Refused not-laid-out
 
 abbrev pub rankSplit : Mem → Split → Amount
@@ -86,7 +86,7 @@ ifThere (truth.Is b) a = cond b a perhaps.Nothing
 ifThere (truth.Refused n) a = perhaps.Refused n
 
 abbrev pub rankIfSeat : Mem → ℕ → Seat → Perhaps
-rankIfSeat x o (seat.At w before) = ifThere (hasAt x o (spotBy x w)) (perhapsOf (plus before (belowAt x o (spotBy x w))))
+rankIfSeat x o (seat.At w before) = ifThere (hasAt x o (spotBy x w)) (perhapsOf (plusBefore before (belowAt x o (spotBy x w))))
 rankIfSeat x o seat.Bad = perhaps.Refused not-laid-out
 
 abbrev pub rankIfSplit : Mem → Split → Perhaps

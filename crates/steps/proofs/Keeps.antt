@@ -21,7 +21,7 @@ use Rattle.layout.specs.Places.{decoded, pagePart, rowOwner, pageOwner}
 use Rattle.layout.specs.Entries.{entries, chunkAt, prefixAt, placeAt, placeOf}
 use Rattle.document.specs.State.{Kind}
 use Rattle.layout.specs.Meaning.{offsets, holds, kindOf, kinds, ranked}
-use Rattle.layout.specs.Follows.{AllZero, Listed, RowListed, membersAt, kept, Laid}
+use Rattle.layout.specs.Follows.{AllZero, Listed, RowListed, membersAt, whenRanked, Laid}
 use Rattle.layout.specs.Tests.{Walked}
 use Rattle.document.specs.declared.sizes.Sizes.{Sizes}
 use Rattle.layout.specs.declared.place.Place.{Place}
@@ -55,7 +55,7 @@ offsets-kept h x y (Dense p) u o = ap (λ (page : List ℕ). isSet page o) (u .1
 
 -- ---- the layout
 
-kept-none : (y : Mem) (n : ℕ) → ranked y ≡ false → kept y n ≡ 0
+kept-none : (y : Mem) (n : ℕ) → ranked y ≡ false → whenRanked y n ≡ 0
 kept-none y n e = ap (λ (b : Bool). cond b n 0) e
 
 module _ (h : Sizes) (x y : Mem) (c w : ℕ) (L : Laid x h) (mode : ranked x ≡ false) (far : c < lastChunk h) (s : Stepped h x y c w) where

@@ -25,7 +25,7 @@ use Rattle.layout.specs.declared.place.Place.the-variants.{Absent, Sparse, Dens
 use Rattle.layout_laws.proofs.Walked.{laid-walked}
 use Rattle.layout_laws.proofs.Entries.{walked-ordered, count-chunks}
 use Rattle.layout_laws.proofs.ChunkCounts.{over-chunks, sparse-rows, dense-pages}
-use Rattle.unions.specs.Union.{standing, source, chunkOf, sourceEntries, isPlaced, isDense, newEntry, newRow, freedRow, newPage, overAfter, rowsAfter, pagesAfter}
+use Rattle.unions.specs.Union.{standing, source, sourceChunk, sourceEntries, isPlaced, unionDense, newEntry, newRow, freedRow, newPage, overAfter, rowsAfter, pagesAfter}
 use Rattle.unions.proofs.Standing.{standing-is, source-is}
 use Rattle.unions.proofs.Results.{same-last, kindAfter, result-is}
 
@@ -55,7 +55,7 @@ module _ (x y : Mem) where
   over-one false o (Dense p) = refl
   over-one true o Absent = omega arith
   over-one true Absent (Sparse i k) = refl
-  over-one true (Sparse r l) (Sparse i k) = go (isDense x y (Sparse r l) (Sparse i k))
+  over-one true (Sparse r l) (Sparse i k) = go (unionDense x y (Sparse r l) (Sparse i k))
     where
       go : (b : Bool) → 1 + 0 ≡ boolByte (isPresent (cond b dense sparse))
       go true = refl
@@ -66,10 +66,10 @@ module _ (x y : Mem) where
   over-one true (Dense q) (Dense p) = refl
 
   row-one : (o q : Place)
-      → boolByte (isSparse (kindOf o)) + boolByte (hasRow q && not (isPlaced o)) ≡ boolByte (isSparse (kindAfter x y o q)) + boolByte (isDense x y o q && hasRow o)
+      → boolByte (isSparse (kindOf o)) + boolByte (hasRow q && not (isPlaced o)) ≡ boolByte (isSparse (kindAfter x y o q)) + boolByte (unionDense x y o q && hasRow o)
   row-one o Absent = refl
   row-one Absent (Sparse i k) = refl
-  row-one (Sparse r l) (Sparse i k) = go (isDense x y (Sparse r l) (Sparse i k))
+  row-one (Sparse r l) (Sparse i k) = go (unionDense x y (Sparse r l) (Sparse i k))
     where
       go : (b : Bool) → 1 + 0 ≡ boolByte (isSparse (cond b dense sparse)) + boolByte (b && true)
       go true = refl
@@ -80,10 +80,10 @@ module _ (x y : Mem) where
   row-one (Dense q) (Dense p) = refl
 
   page-one : (o q : Place)
-      → boolByte (state.isDense (kindOf o)) + boolByte (isDense x y o q && not (hasPage o)) ≡ boolByte (state.isDense (kindAfter x y o q))
+      → boolByte (state.isDense (kindOf o)) + boolByte (unionDense x y o q && not (hasPage o)) ≡ boolByte (state.isDense (kindAfter x y o q))
   page-one o Absent = omega arith
   page-one Absent (Sparse i k) = refl
-  page-one (Sparse r l) (Sparse i k) = go (isDense x y (Sparse r l) (Sparse i k))
+  page-one (Sparse r l) (Sparse i k) = go (unionDense x y (Sparse r l) (Sparse i k))
     where
       go : (b : Bool) → 0 + boolByte (b && true) ≡ boolByte (state.isDense (cond b dense sparse))
       go true = refl
@@ -98,12 +98,12 @@ module _ (x y : Mem) where
 -- a yes or no of the source's entries, of places here and there, is one of chunk ids
 module _ {x y : Mem} (w : Walked x (head x)) (v : Walked y (head y)) (same : sameShape (head x) (head y) ≡ true) where
   pub by-chunks : (f : ℕ → Bool) (g : ℕ → Place → Place → Bool) → ((c : ℕ) (o : Place) → g c o Absent ≡ false)
-      → ((e : ℕ) → f e ≡ g (chunkOf y e) (standing x (chunkOf y e)) (source y e))
+      → ((e : ℕ) → f e ≡ g (sourceChunk y e) (standing x (sourceChunk y e)) (source y e))
       → count f (sourceEntries y) ≡ count (λ (c : ℕ). g c (placeOf (head x) (x .table) c) (placeOf (head y) (y .table) c)) (lastChunk (head x))
   by-chunks f g none each =
       let here = placeOf (head x) (x .table) in
-      count-ext f (λ (e : ℕ). g (chunkOf y e) (here (chunkOf y e)) (placeAt (head y) (y .table) e)) (sourceEntries y)
-      (λ e l. each e ∙ ap₂ (g (chunkOf y e)) (standing-is w (chunkOf y e)) (source-is v e l))
+      count-ext f (λ (e : ℕ). g (sourceChunk y e) (here (sourceChunk y e)) (placeAt (head y) (y .table) e)) (sourceEntries y)
+      (λ e l. each e ∙ ap₂ (g (sourceChunk y e)) (standing-is w (sourceChunk y e)) (source-is v e l))
       ∙ sym (count-chunks (head y) (y .table) (walked-ordered v) (λ (c : ℕ) (q : Place). g c (here c) q) (λ c. none c (here c)))
       ∙ ap (count (λ (c : ℕ). g c (here c) (placeOf (head y) (y .table) c))) (sym (same-last x y same))
 
@@ -134,7 +134,7 @@ module _ {x y : Mem} (w : Follows x) (v : Follows y) (same : sameShape (head x) 
   fills c o q = hasRow q && not (isPlaced o)
 
   abbrev frees : ℕ → Place → Place → Bool
-  frees c o q = isDense x y o q && hasRow o
+  frees c o q = unionDense x y o q && hasRow o
 
   pub rows-after : rowsAfter x y ≡ sparses (head x) after
   unfolding sparses newRow freedRow kinds
@@ -150,7 +150,7 @@ module _ {x y : Mem} (w : Follows x) (v : Follows y) (same : sameShape (head x) 
       omega arith
 
   abbrev pages : ℕ → Place → Place → Bool
-  pages c o q = isDense x y o q && not (hasPage o)
+  pages c o q = unionDense x y o q && not (hasPage o)
 
   pub pages-after : pagesAfter x y ≡ denses (head x) after
   unfolding denses newPage kinds

@@ -38,7 +38,7 @@ use Rattle.steps.proofs.Keeps.{still-open}
 use Rattle.calls.specs.Insert.{freePage}
 use Rattle.calls.specs.Prepare.{intoPage}
 use Rattle.calls.proofs.FirstFree.{first-free}
-use Rattle.unions.specs.Union.{isDense, pageOf, withSource, joinedPage, densely}
+use Rattle.unions.specs.Union.{unionDense, pageOf, withSource, joinedPage, densely}
 use Rattle.unions.proofs.Results.{same-s, same-top}
 use Rattle.unions.proofs.Stepwise.{becomes-same, place-after, offsets-after, becomes-as, becomes-then, page-anew}
 
@@ -184,12 +184,12 @@ module _ {x : Mem} (w : Follows x) (mode : ranked x ≡ false) (c : ℕ) (far : 
     joined-turn : Becomes x (joinedPage z y o p q) c (Dense p) both
     joined-turn = becomes-as (becomes-then first second) both members
 
-    pub dense-turn : isDense x y o q ≡ true → Becomes x (densely x y c o q) c (Dense p) (λ (n : ℕ). offsets (head x) x o n || offsets (head y) y q n)
+    pub dense-turn : unionDense x y o q ≡ true → Becomes x (densely x y c o q) c (Dense p) (λ (n : ℕ). offsets (head x) x o n || offsets (head y) y q n)
     dense-turn d =
         subst (λ (t : Bool). Becomes x (cond (t && ltb p (head x .p)) (joinedPage z y o p q) x) c (Dense p) both) (sym d)
         (subst (λ (t : Bool). Becomes x (cond t (joinedPage z y o p q) x) c (Dense p) both) (sym (lt-ltb p (head x .p) page)) joined-turn)
 
 -- any other chunk waits
-pub dense-waits : (x y : Mem) (c : ℕ) (o q : Place) → isDense x y o q ≡ false → densely x y c o q ≡ x
+pub dense-waits : (x y : Mem) (c : ℕ) (o q : Place) → unionDense x y o q ≡ false → densely x y c o q ≡ x
 dense-waits x y c o q d =
     ap (λ (t : Bool). cond (t && ltb (pageOf x o) (head x .p)) (joinedPage (intoPage (head x) x c (pageOf x o) o) y o (pageOf x o) q) x) d

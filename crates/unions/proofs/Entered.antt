@@ -33,7 +33,7 @@ use Rattle.steps.proofs.Words.{put-word}
 use Rattle.steps.proofs.Orders.{wrote-ordered, wrote-place, wrote-place-off}
 use Rattle.steps.proofs.Slots.{entry-none}
 use Rattle.calls.proofs.Needed.{count-imp}
-use Rattle.unions.specs.Union.{standing, source, chunkOf, sourceEntries, isPlaced, newEntry, overAfter}
+use Rattle.unions.specs.Union.{standing, source, sourceChunk, sourceEntries, isPlaced, newEntry, overAfter}
 use Rattle.unions.proofs.Standing.{standing-is, chunk-in}
 use Rattle.unions.proofs.Results.{same-last}
 use Rattle.unions.proofs.Rooms.{count-under}
@@ -60,7 +60,7 @@ word-placed w d = go (eqb w 0) (ne-eqb w 0 d) (ltb w 268435456)
 
 -- chunks of the source that were not here, and are by now
 abbrev pub entered : Mem → Mem → Mem → ℕ → Bool
-entered x y z e = newEntry x y e && isPlaced (placeOf (head z) (z .table) (chunkOf y e))
+entered x y z e = newEntry x y e && isPlaced (placeOf (head z) (z .table) (sourceChunk y e))
 
 pub record Sound (x y z : Mem) : Type 0 where
   pub ordered : Ordered (head z) (z .table)
@@ -100,7 +100,7 @@ module _ {x y : Mem} (w : Walked x (head x)) (v : Walked y (head y)) (same : sam
 
   module _ (e : ℕ) (l : e < sourceEntries y) (some : isPlaced (source y e) ≡ true) where
     abbrev c : ℕ
-    c = chunkOf y e
+    c = sourceChunk y e
 
     abbrev Missing : Type 0
     Missing = (j : ℕ) → j < entries (head z) (z .table) → chunkAt (head z) (z .table) j ≢ c
@@ -137,16 +137,16 @@ module _ {x y : Mem} (w : Walked x (head x)) (v : Walked y (head y)) (same : sam
     not-yet none = ap (λ (q : Place). newEntry x y e && isPlaced q) (absent none) ∙ and-false (newEntry x y e)
 
     was-new : (j : ℕ) → entered x y z j ≡ true → newEntry x y j ≡ true
-    was-new j p = both (newEntry x y j) (isPlaced (placeOf (head z) (z .table) (chunkOf y j))) p .0
+    was-new j p = both (newEntry x y j) (isPlaced (placeOf (head z) (z .table) (sourceChunk y j))) p .0
 
-    pub entry-left : ((j : ℕ) → j < entries (head z) (z .table) → chunkAt (head z) (z .table) j ≢ chunkOf y e) → overCount (z .table) < head z .v
+    pub entry-left : ((j : ℕ) → j < entries (head z) (z .table) → chunkAt (head z) (z .table) j ≢ sourceChunk y e) → overCount (z .table) < head z .v
     entry-left none =
         let a = count-under (entered x y z) (newEntry x y) e (sourceEntries y) l was-new (not-yet none) (new none) in
         let b = s .counted in
         let d = ap (λ (h : Sizes). h .v) (s .sizes) in
         omega arith
 
-    pub entry-room : EntryRoom (head z) (z .table) (chunkOf y e)
+    pub entry-room : EntryRoom (head z) (z .table) (sourceChunk y e)
     entry-room = room-ordered (head z) (z .table) (s .ordered) (s .fits) c entry-left
 
     -- ---- and with its word written
@@ -173,8 +173,8 @@ module _ {x y : Mem} (w : Walked x (head x)) (v : Walked y (head y)) (same : sam
 
       still-entered : (j : ℕ) → entered x y z j ≡ true → entered x y n j ≡ true
       still-entered j p =
-          let g = both (newEntry x y j) (isPlaced (placeOf (head z) (z .table) (chunkOf y j))) p in
-          ap₂ _&&_ (g .0) (still-placed (chunkOf y j) (g .1))
+          let g = both (newEntry x y j) (isPlaced (placeOf (head z) (z .table) (sourceChunk y j))) p in
+          ap₂ _&&_ (g .0) (still-placed (sourceChunk y j) (g .1))
 
       counts : overCount (n .table) ≤ overCount (x .table) + count (entered x y n) (sourceEntries y)
       counts = go (wrote .put)

@@ -25,7 +25,7 @@ use Rattle.layout_laws.proofs.Owners.{page-of}
 use Rattle.steps.specs.Effects.{EntryFor}
 use Rattle.calls.specs.Insert.{freePage}
 use Rattle.calls.proofs.Slots.{lowest}
-use Rattle.unions.specs.Union.{standing, source, chunkOf, sourceEntries, isPlaced, isDense, pageOf, densely, denseTo}
+use Rattle.unions.specs.Union.{standing, source, sourceChunk, sourceEntries, isPlaced, unionDense, pageOf, densely, denseTo}
 use Rattle.unions.proofs.Standing.{standing-is, source-of, chunk-in}
 use Rattle.unions.proofs.Results.{same-last, result-dense}
 use Rattle.unions.proofs.DenseTurns.{dense-turn, dense-waits}
@@ -37,9 +37,9 @@ use Rattle.unions.proofs.Halfway.{half-not, half-none, map-still, membe
 -- ---- a turn's chunk, in memory of the same sizes and mode
 
 module _ (x y : Mem) (v : Follows y) (same : sameShape (head x) (head y) ≡ true) (z : Mem) (sizes : head z ≡ head x) where
-  pub far-still : (e : ℕ) → e < sourceEntries y → chunkOf y e < lastChunk (head z)
+  pub far-still : (e : ℕ) → e < sourceEntries y → sourceChunk y e < lastChunk (head z)
   far-still e l =
-      subst (λ (h : Sizes). chunkOf y e < lastChunk h) (sym sizes) (let a = chunk-in (laid-walked v) e l in let b = same-last x y same in omega arith)
+      subst (λ (h : Sizes). sourceChunk y e < lastChunk h) (sym sizes) (let a = chunk-in (laid-walked v) e l in let b = same-last x y same in omega arith)
 
   pub shape-still : sameShape (head z) (head y) ≡ true
   shape-still = ap (λ (h : Sizes). sameShape h (head y)) sizes ∙ same
@@ -51,7 +51,7 @@ pub kind-at : (z : Mem) (c : ℕ) (o : Place) → placeOf (head z) (z .table) c 
 unfolding kinds
 kind-at z c o e = ap kindOf e
 
-pub dense-placed : (x y : Mem) (o q : Place) → isDense x y o q ≡ true → isPlaced q ≡ true
+pub dense-placed : (x y : Mem) (o q : Place) → unionDense x y o q ≡ true → isPlaced q ≡ true
 dense-placed x y o Absent d = absurd (let z : _≡_ {A = ℕ} 0 1 = cc in omega arith)
 dense-placed x y o (Sparse i k) d = refl
 dense-placed x y o (Dense p) d = refl
@@ -68,7 +68,7 @@ module _ {x y : Mem} (w : Follows x) (mode : ranked x ≡ false) (v : Follows y)
 
   module _ (e : ℕ) (l : e < sourceEntries y) (z : Mem) (s : Partly x y (stateOf x) half e z) where
     abbrev c : ℕ
-    c = chunkOf y e
+    c = sourceChunk y e
 
     abbrev q : Place
     q = placeOf (head y) (y .table) c
@@ -86,7 +86,7 @@ module _ {x y : Mem} (w : Follows x) (mode : ranked x ≡ false) (v : Follows y)
     has = partly-next s (laid-walked v) l
 
     -- the chunk's result, by the places that it has now
-    result : isPlaced q ≡ true → isDense z y (placeOf (head z) (z .table) c) q ≡ state.isDense (map c)
+    result : isPlaced q ≡ true → unionDense z y (placeOf (head z) (z .table) c) q ≡ state.isDense (map c)
     result p = result-dense f v shape c p ∙ ap state.isDense (map-still x y z same (s .sizes) c has)
 
     under-present : (i : ℕ) → isPresent (kinds z i) ≡ true → isPresent (map i) ≡ true
@@ -122,7 +122,7 @@ module _ {x y : Mem} (w : Follows x) (mode : ranked x ≡ false) (v : Follows y)
     takes (Sparse r k) m = lowest (pageOwner (head z) (z .table)) (head z .p) m
     takes (Dense p) m = refl
 
-    becoming : (o : Place) → placeOf (head z) (z .table) c ≡ o → isDense z y o q ≡ true → Goes dense z (densely z y c o q) c half
+    becoming : (o : Place) → placeOf (head z) (z .table) c ≡ o → unionDense z y o q ≡ true → Goes dense z (densely z y c o q) c half
     becoming o at g =
         let p = page o at d in
         record {
@@ -139,29 +139,29 @@ module _ {x y : Mem} (w : Follows x) (mode : ranked x ≡ false) (v : Follows y)
         }
       where
         d : state.isDense (map c) ≡ true
-        d = sym (result (dense-placed z y o q g)) ∙ ap (λ (u : Place). isDense z y u q) at ∙ g
+        d = sym (result (dense-placed z y o q g)) ∙ ap (λ (u : Place). unionDense z y u q) at ∙ g
 
         there : (n : ℕ) → n / top (head z) ≡ c → n / top (head x) ≡ c
         there n i = ap (λ (h : Sizes). n / top h) (sym (s .sizes)) ∙ i
 
     -- ---- any other
 
-    alike : (i : Place) → q ≡ i → isDense z y (placeOf (head z) (z .table) c) q ≡ false → Alike (head x) c (stateOf x) half
+    alike : (i : Place) → q ≡ i → unionDense z y (placeOf (head z) (z .table) c) q ≡ false → Alike (head x) c (stateOf x) half
     alike Absent a g = half-none x y c same a
     alike (Sparse j k) a g = half-not x y c (sym (result (ap isPlaced a)) ∙ g)
     alike (Dense p) a g = half-not x y c (sym (result (ap isPlaced a)) ∙ g)
 
-    waiting : isDense z y (placeOf (head z) (z .table) c) q ≡ false → Goes dense z z c half
+    waiting : unionDense z y (placeOf (head z) (z .table) c) q ≡ false → Goes dense z z c half
     waiting g = goes-nowhere f (has-alike has (subst (λ (h : Sizes). Alike h c (stateOf x) half) (sym (s .sizes)) (alike q refl g)))
 
     by-places : Goes dense z (densely z y c (placeOf (head z) (z .table) c) q) c half
-    by-places = go (isDense z y (placeOf (head z) (z .table) c) q) refl
+    by-places = go (unionDense z y (placeOf (head z) (z .table) c) q) refl
       where
-        go : (b : Bool) → isDense z y (placeOf (head z) (z .table) c) q ≡ b → Goes dense z (densely z y c (placeOf (head z) (z .table) c) q) c half
+        go : (b : Bool) → unionDense z y (placeOf (head z) (z .table) c) q ≡ b → Goes dense z (densely z y c (placeOf (head z) (z .table) c) q) c half
         go true g = becoming (placeOf (head z) (z .table) c) refl g
         go false g = subst (λ (n : Mem). Goes dense z n c half) (sym (dense-waits z y c (placeOf (head z) (z .table) c) q g)) (waiting g)
 
-    pub first-turn : Goes dense z (densely z y (chunkOf y e) (standing z (chunkOf y e)) (source y e)) (chunkOf y e) half
+    pub first-turn : Goes dense z (densely z y (sourceChunk y e) (standing z (sourceChunk y e)) (source y e)) (sourceChunk y e) half
     first-turn =
         subst (λ (o : Place). Goes dense z (densely z y c o (source y e)) c half) (sym (standing-is (laid-walked f) c))
         (subst (λ (i : Place). Goes dense z (densely z y c (placeOf (head z) (z .table) c) i) c half) (sym (source-of (laid-walked v) e l)) by-places)
@@ -173,5 +173,5 @@ module _ {x y : Mem} (w : Follows x) (mode : ranked x ≡ false) (v : Follows y)
   first-pass zero l = partly-none w refl refl (λ i. record { kind = refl; members = λ n e. refl })
   first-pass (suc e) l = go (denseTo x y e) (first-pass e (omega arith))
     where
-      go : (z : Mem) → Partly x y (stateOf x) half e z → Partly x y (stateOf x) half (suc e) (densely z y (chunkOf y e) (standing z (chunkOf y e)) (source y e))
+      go : (z : Mem) → Partly x y (stateOf x) half e z → Partly x y (stateOf x) half (suc e) (densely z y (sourceChunk y e) (standing z (sourceChunk y e)) (source y e))
       go z s = partly-more s (laid-walked v) (omega arith) (first-turn e (omega arith) z s)

@@ -33,7 +33,7 @@ use Rattle.steps.proofs.Table.{header-kept}
 use Rattle.steps.proofs.Moves.{Moved, open-after, walked-step, kinds-step}
 use Rattle.calls.proofs.Needed.{count-imp}
 use Rattle.unions.specs.Union.{standing, isPlaced, newEntry, overAfter, judged, barredBy, unionPlan}
-use Rattle.unions.specs.Joins.{Joins}
+use Rattle.unions.specs.Joinable.{Joinable}
 use Rattle.unions.proofs.Counts.{count-more, by-chunks}
 use Rattle.unions.proofs.Judged.{judged-room}
 
@@ -57,7 +57,7 @@ open-here x y merge e = go (ranked x) (ranked y) e
     go true b e = e
     go false b e = refl
 
-pub plan-joins : (x y : Mem) (j : Join) → unionPlan x y j ≡ Done → Joins x y
+pub plan-joins : (x y : Mem) (j : Join) → unionPlan x y j ≡ Done → Joinable x y
 unfolding unionPlan
 plan-joins x y j e =
     let g = gate (walked x && walked y) (barredBy x y j) (sameShape (head x) (head y)) (judged x y) e in
@@ -135,7 +135,7 @@ and-none true a e = e
 and-none false a e = refl
 
 -- a chunk that the source has and the destination hasn't finds room for its entry
-pub entry-room : {x y : Mem} → Joins x y → (c : ℕ) → c < lastChunk (head x) → isPresent (kinds x c) ≡ false → isPresent (kinds y c) ≡ true
+pub entry-room : {x y : Mem} → Joinable x y → (c : ℕ) → c < lastChunk (head x) → isPresent (kinds x c) ≡ false → isPresent (kinds y c) ≡ true
     → EntryFor (head x) (x .table) c
 unfolding eitherPast
 entry-room {x} {y} J c l a b d =
@@ -157,7 +157,7 @@ first-of : (p a : Bool) → (p && a) ≡ true → p ≡ true
 first-of true a e = refl
 first-of false a e = e
 
-module _ {x y z : Mem} (J : Joins x y) (c v : ℕ) (m : Moved (head x) x z c v) (far : c < lastChunk (head x)) (has : isPresent (kinds y c) ≡ true) where
+module _ {x y z : Mem} (J : Joinable x y) (c v : ℕ) (m : Moved (head x) x z c v) (far : c < lastChunk (head x)) (has : isPresent (kinds y c) ≡ true) where
   pub head-moved : head z ≡ head x
   head-moved = header-kept (head x) (x .table) (z .table) c v (m .wrote)
 
@@ -194,12 +194,12 @@ module _ {x y z : Mem} (J : Joins x y) (c v : ℕ) (m : Moved (head x) x z c v) 
       let g = ap (λ (h : Sizes). h .v) head-moved in
       omega arith
 
-  pub joins-moved : Joins z y
+  pub joins-moved : Joinable z y
   joins-moved = record { here = walks; there = J .there; mode = open-after (head x) x z c v (J .here) (J .mode) far m; shape = shape; over = fits }
 
 -- ---- other pages, as many
 
-pub joins-pages : {x y : Mem} → Joins x y → (ps : List ℕ) → length ps ≡ length (x .pages) → Joins (mem ps (x .rows) (x .blocks) (x .table)) y
+pub joins-pages : {x y : Mem} → Joinable x y → (ps : List ℕ) → length ps ≡ length (x .pages) → Joinable (mem ps (x .rows) (x .blocks) (x .table)) y
 unfolding newEntry standing
 joins-pages {x} {y} J ps e =
     let w = J .here in

@@ -40,30 +40,30 @@ use Rattle.steps.proofs.Paged.{page-moved, paged-owner}
 use Rattle.calls.specs.Insert.{freeRow, freePage}
 use Rattle.calls.specs.Prepare.{intoPage}
 use Rattle.calls.proofs.FirstFree.{first-free}
-use Rattle.unions.specs.Union.{standing, source, chunkOf, sourceEntries, rowsUnion, isDense, pageOf, withSource, joinedPage, densely, denseTo, rowCopied, rowJoined, sparsely, sparseTo}
-use Rattle.unions.specs.Joins.{Joins}
+use Rattle.unions.specs.Union.{standing, source, sourceChunk, sourceEntries, rowsUnion, unionDense, pageOf, withSource, joinedPage, densely, denseTo, rowCopied, rowJoined, sparsely, sparseTo}
+use Rattle.unions.specs.Joinable.{Joinable}
 use Rattle.unions.proofs.Standing.{standing-is, source-is, source-of, chunk-in}
 use Rattle.unions.proofs.Results.{same-s, same-m, same-last}
 use Rattle.unions.proofs.Joins.{entry-room, head-moved, joins-moved, joins-pages}
 
 -- memory z after a turn: slots that had an owner have one
 pub record Turned (owner : Sizes → List ℕ → ℕ → ℕ) (x y z : Mem) : Type 0 where
-  pub joins : Joins z y
+  pub joins : Joinable z y
   pub sizes : head z ≡ head x
   pub taken : (j : ℕ) → owner (head x) (x .table) j ≢ 0 → owner (head x) (z .table) j ≢ 0
 
-pub turned-none : {owner : Sizes → List ℕ → ℕ → ℕ} {x y : Mem} → Joins x y → Turned owner x y x
+pub turned-none : {owner : Sizes → List ℕ → ℕ → ℕ} {x y : Mem} → Joinable x y → Turned owner x y x
 turned-none J = record { joins = J; sizes = refl; taken = λ j d. d }
 
-turned-if : {owner : Sizes → List ℕ → ℕ → ℕ} {x y z : Mem} (b : Bool) → Joins x y → (b ≡ true → Turned owner x y z) → Turned owner x y (cond b z x)
+turned-if : {owner : Sizes → List ℕ → ℕ → ℕ} {x y z : Mem} (b : Bool) → Joinable x y → (b ≡ true → Turned owner x y z) → Turned owner x y (cond b z x)
 turned-if true J f = f refl
 turned-if false J f = turned-none J
 
 -- ---- entry e of the source
 
-module _ {x y : Mem} (J : Joins x y) (e : ℕ) (l : e < sourceEntries y) where
+module _ {x y : Mem} (J : Joinable x y) (e : ℕ) (l : e < sourceEntries y) where
   abbrev c : ℕ
-  c = chunkOf y e
+  c = sourceChunk y e
 
   abbrev here : Place
   here = placeOf (head x) (x .table) c
@@ -127,7 +127,7 @@ module _ {x y : Mem} (J : Joins x y) (e : ℕ) (l : e < sourceEntries y) where
     into-turned (Dense p) at room = turned-none J
 
   -- the source's members, into page p of z
-  module _ (z : Mem) (sizes : head z ≡ head x) (K : Joins z y) (p : ℕ) (room : p < head x .p) where
+  module _ (z : Mem) (sizes : head z ≡ head x) (K : Joinable z y) (p : ℕ) (room : p < head x .p) where
     abbrev was : List ℕ
     was = pagePart (head z) (z .pages) p
 
@@ -147,7 +147,7 @@ module _ {x y : Mem} (J : Joins x y) (e : ℕ) (l : e < sourceEntries y) where
     source-long (Sparse r k) (Dense i) s = length-or was (pagePart (head y) (y .pages) i) ∙ was-long
     source-long (Dense j) (Dense i) s = length-or was (pagePart (head y) (y .pages) i) ∙ was-long
 
-    joined-joins : (o q : Place) → source y e ≡ q → Joins (joinedPage z y o p q) y
+    joined-joins : (o q : Place) → source y e ≡ q → Joinable (joinedPage z y o p q) y
     joined-joins o q s =
         joins-pages K _
         (length-put (z .pages) (p * wide (head z)) (wide (head z)) (withSource y o was q) (source-long o q s)
@@ -160,18 +160,18 @@ module _ {x y : Mem} (J : Joins x y) (e : ℕ) (l : e < sourceEntries y) where
       record { joins = joined-joins (intoPage (head x) x c (pageOf x o) o) (t .sizes) (t .joins) (pageOf x o) room o q s; sizes = t .sizes; taken = t .taken }
 
   -- a chunk whose result is dense is one that the source has
-  dense-has : (o q : Place) → isDense x y o q ≡ true → isPresent (kindOf q) ≡ true
+  dense-has : (o q : Place) → unionDense x y o q ≡ true → isPresent (kindOf q) ≡ true
   dense-has o Absent d = absurd (let z : _≡_ {A = ℕ} 0 1 = cc in omega arith)
   dense-has o (Sparse i k) d = refl
   dense-has o (Dense p) d = refl
 
   dense-by : (o q : Place) → here ≡ o → source y e ≡ q → Turned pageOwner x y (densely x y c o q)
   dense-by o q at s =
-      turned-if (isDense x y o q && ltb (pageOf x o) (head x .p)) J
-      (λ b. let g = both (isDense x y o q) (ltb (pageOf x o) (head x .p)) b in
+      turned-if (unionDense x y o q && ltb (pageOf x o) (head x .p)) J
+      (λ b. let g = both (unionDense x y o q) (ltb (pageOf x o) (head x .p)) b in
       joined-turned o q at s (dense-has o q (g .0)) (ltb-true (pageOf x o) (head x .p) (g .1)))
 
-  pub dense-turned : Turned pageOwner x y (densely x y (chunkOf y e) (standing x (chunkOf y e)) (source y e))
+  pub dense-turned : Turned pageOwner x y (densely x y (sourceChunk y e) (standing x (sourceChunk y e)) (source y e))
   dense-turned = dense-by (standing x c) (source y e) (sym (standing-is (J .here) c)) refl
 
   -- ---- into a row
@@ -248,16 +248,16 @@ module _ {x y : Mem} (J : Joins x y) (e : ℕ) (l : e < sourceEntries y) where
   sparse-by (Sparse r n) (Sparse i k) at s = joined-row r n i k at s
   sparse-by (Dense p) (Sparse i k) at s = turned-none J
 
-  pub sparse-turned : Turned rowOwner x y (sparsely x y (chunkOf y e) (standing x (chunkOf y e)) (source y e))
+  pub sparse-turned : Turned rowOwner x y (sparsely x y (sourceChunk y e) (standing x (sourceChunk y e)) (source y e))
   sparse-turned = sparse-by (standing x c) (source y e) (sym (standing-is (J .here) c)) refl
 
 -- ---- all turns
 
 pub record Kept (x y z : Mem) : Type 0 where
-  pub joins : Joins z y
+  pub joins : Joinable z y
   pub sizes : head z ≡ head x
 
-module _ {x y : Mem} (J : Joins x y) where
+module _ {x y : Mem} (J : Joinable x y) where
   pub dense-kept : (e : ℕ) → e ≤ sourceEntries y → Kept x y (denseTo x y e)
   unfolding denseTo
   dense-kept zero l = record { joins = J; sizes = refl }

@@ -22,7 +22,7 @@ use Rattle.layout.specs.declared.place.Place.{Place}
 use Rattle.layout_laws.proofs.Keys.{Sought, found, missed, seek}
 use Rattle.steps.specs.Effects.{Becomes}
 use Rattle.calls.proofs.Slots.{Turn, takes-none, turn-becomes}
-use Rattle.unions.specs.Union.{chunkOf, sourceEntries}
+use Rattle.unions.specs.Union.{sourceChunk, sourceEntries}
 use Rattle.unions.proofs.Standing.{chunks-once}
 use Rattle.unions.proofs.Stepwise.{becomes-same}
 
@@ -135,8 +135,8 @@ pub record Partly (x y : Mem) (from to : State) (e : ℕ) (z : Mem) : Type 0 whe
   pub follows : Follows z
   pub sizes : head z ≡ head x
   pub mode : modeAt (z .table) ≡ modeAt (x .table)
-  pub turned : (j : ℕ) → j < e → Has z (chunkOf y j) to
-  pub waits : (i : ℕ) → ((j : ℕ) → j < e → chunkOf y j ≢ i) → Has z i from
+  pub turned : (j : ℕ) → j < e → Has z (sourceChunk y j) to
+  pub waits : (i : ℕ) → ((j : ℕ) → j < e → sourceChunk y j ≢ i) → Has z i from
 
 pub partly-none : {x y : Mem} {from to : State} {z : Mem} → Follows z → head z ≡ head x → modeAt (z .table) ≡ modeAt (x .table) → ((i : ℕ) → Has z i from)
     → Partly x y from to 0 z
@@ -145,26 +145,26 @@ partly-none w sizes mode has = record { follows = w; sizes = sizes; mode = mode;
 module _ {x y : Mem} {from to : State} {e : ℕ} {z : Mem} (s : Partly x y from to e z) where
   -- what both sets say of kinds
   pub partly-kinds : (P : ℕ → Kind → Type 0) → ((i : ℕ) → P i (from .map i)) → ((i : ℕ) → P i (to .map i)) → (i : ℕ) → P i (kinds z i)
-  partly-kinds P f t i = go (seek (chunkOf y) e i)
+  partly-kinds P f t i = go (seek (sourceChunk y) e i)
     where
-      go : Sought (chunkOf y) e i → P i (kinds z i)
+      go : Sought (sourceChunk y) e i → P i (kinds z i)
       go (found j l k) = subst (P i) (sym (ap (kinds z) (sym k) ∙ s .turned j l .kind ∙ ap (to .map) k)) (t i)
       go (missed none) = subst (P i) (sym (s .waits i none .kind)) (f i)
 
   -- at the end: chunks without an entry are alike in both
-  pub partly-all : ((i : ℕ) → ((j : ℕ) → j < e → chunkOf y j ≢ i) → Alike (head z) i from to) → (i : ℕ) → Has z i to
-  partly-all f i = go (seek (chunkOf y) e i)
+  pub partly-all : ((i : ℕ) → ((j : ℕ) → j < e → sourceChunk y j ≢ i) → Alike (head z) i from to) → (i : ℕ) → Has z i to
+  partly-all f i = go (seek (sourceChunk y) e i)
     where
-      go : Sought (chunkOf y) e i → Has z i to
+      go : Sought (sourceChunk y) e i → Has z i to
       go (found j l k) = subst (λ (c : ℕ). Has z c to) k (s .turned j l)
       go (missed none) = has-alike (s .waits i none) (f i none)
 
   module _ (v : Walked y (head y)) (l : e < sourceEntries y) where
     -- the chunk of the next entry has not had its turn
-    pub partly-next : Has z (chunkOf y e) from
-    partly-next = s .waits (chunkOf y e) (λ j m k. let d = chunks-once v j e (omega arith) l k in omega arith)
+    pub partly-next : Has z (sourceChunk y e) from
+    partly-next = s .waits (sourceChunk y e) (λ j m k. let d = chunks-once v j e (omega arith) l k in omega arith)
 
-    pub partly-more : {k : Kind} {n : Mem} → Goes k z n (chunkOf y e) to → Partly x y from to (suc e) n
+    pub partly-more : {k : Kind} {n : Mem} → Goes k z n (sourceChunk y e) to → Partly x y from to (suc e) n
     partly-more {k} {n} g = record {
       follows = g .becomes .follows;
       sizes = g .becomes .head-is ∙ s .sizes;
@@ -173,6 +173,6 @@ module _ {x y : Mem} {from to : State} {e : ℕ} {z : Mem} (s : Partly x y from 
       waits = λ i none. has-off g (λ k. none e (omega arith) (sym k)) (s .waits i (λ j m. none j (omega arith)));
     }
       where
-        then : (j : ℕ) → (j < e) ⊎ (j ≡ e) → Has n (chunkOf y j) to
+        then : (j : ℕ) → (j < e) ⊎ (j ≡ e) → Has n (sourceChunk y j) to
         then j (inl m) = has-off g (λ k. let d = chunks-once v j e (omega arith) l k in omega arith) (s .turned j m)
-        then j (inr k) = subst (λ (i : ℕ). Has n (chunkOf y i) to) (sym k) (has-here g)
+        then j (inr k) = subst (λ (i : ℕ). Has n (sourceChunk y i) to) (sym k) (has-here g)

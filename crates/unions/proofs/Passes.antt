@@ -16,7 +16,7 @@ use Rattle.layout.specs.Meaning.{ranked, stateOf}
 use Rattle.layout.specs.Follows.{Follows}
 use Rattle.layout.specs.declared.place.Place.the-variants.{Absent}
 use Rattle.steps.proofs.Slots.{entry-none}
-use Rattle.unions.specs.Union.{chunkOf, sourceEntries, denseTo, unitedBy}
+use Rattle.unions.specs.Union.{sourceChunk, sourceEntries, denseTo, unitedBy}
 use Rattle.unions.proofs.Partly.{Has, Alike, Partly, partly-none, partly-all}
 use Rattle.unions.proofs.Halfway.{halfway, half-none, all-none}
 use Rattle.unions.proofs.FirstPass.{first-pass}
@@ -32,7 +32,7 @@ module _ {x y : Mem} (w : Follows x) (mode : ranked x ≡ false) (v : Follows y)
   whole = united (stateOf x) (stateOf y) Done
 
   -- a chunk without an entry of the source
-  lacks : (i : ℕ) → ((j : ℕ) → j < sourceEntries y → chunkOf y j ≢ i) → placeOf (head y) (y .table) i ≡ Absent
+  lacks : (i : ℕ) → ((j : ℕ) → j < sourceEntries y → sourceChunk y j ≢ i) → placeOf (head y) (y .table) i ≡ Absent
   lacks i none = entry-none (head y) (y .table) i none
 
   -- ---- between the passes

@@ -30,7 +30,7 @@ use Rattle.layout_laws.proofs.Sizes.{row-length}
 use Rattle.layout_laws.proofs.Walked.{laid-walked}
 use Rattle.layout_laws.proofs.Owners.{row-of}
 use Rattle.layout_laws.proofs.Members.{holds-at, listed-rising, listed-of}
-use Rattle.unions.specs.Union.{isPlaced, rowsUnion, isDense}
+use Rattle.unions.specs.Union.{isPlaced, rowsUnion, unionDense}
 
 -- ---- the offsets of one sparse chunk, as a list
 
@@ -149,7 +149,7 @@ module _ {x y : Mem} (w : Follows x) (v : Follows y) (same : sameShape (head x) 
   there = placeOf (head y) (y .table) c
 
   kind-by : (o q : Place) → here ≡ o → there ≡ q → isPlaced q ≡ true
-      → joined (kindOf o) (kindOf q) (unionSize (stateOf x) (stateOf y) c) (head x .m) ≡ cond (isDense x y o q) dense sparse
+      → joined (kindOf o) (kindOf q) (unionSize (stateOf x) (stateOf y) c) (head x .m) ≡ cond (unionDense x y o q) dense sparse
   kind-by o Absent a b p = absurd (let z : _≡_ {A = ℕ} 0 1 = cc in omega arith)
   kind-by Absent (Sparse i k) a b p = refl
   kind-by (Sparse r l) (Sparse i k) a b p =
@@ -160,12 +160,12 @@ module _ {x y : Mem} (w : Follows x) (v : Follows y) (same : sameShape (head x) 
   kind-by (Dense p′) (Dense q) a b p = refl
 
   -- a chunk that the source has
-  pub result-kind : isPlaced there ≡ true → unionMap (stateOf x) (stateOf y) c ≡ cond (isDense x y here there) dense sparse
+  pub result-kind : isPlaced there ≡ true → unionMap (stateOf x) (stateOf y) c ≡ cond (unionDense x y here there) dense sparse
   unfolding unionMap kinds
   result-kind p = kind-by here there refl refl p
 
-  pub result-dense : isPlaced there ≡ true → isDense x y here there ≡ state.isDense (unionMap (stateOf x) (stateOf y) c)
-  result-dense p = sym (ap state.isDense (result-kind p) ∙ dense-if (isDense x y here there))
+  pub result-dense : isPlaced there ≡ true → unionDense x y here there ≡ state.isDense (unionMap (stateOf x) (stateOf y) c)
+  result-dense p = sym (ap state.isDense (result-kind p) ∙ dense-if (unionDense x y here there))
 
 -- one that it does not have keeps its kind
 joined-absent : (k : Kind) (n m : ℕ) → joined k absent n m ≡ k
@@ -182,10 +182,10 @@ result-kept x y c e =
 -- either way, by places alone
 abbrev pub kindAfter : Mem → Mem → Place → Place → Kind
 kindAfter x y o Absent = kindOf o
-kindAfter x y o (Sparse i k) = cond (isDense x y o (Sparse i k)) dense sparse
+kindAfter x y o (Sparse i k) = cond (unionDense x y o (Sparse i k)) dense sparse
 kindAfter x y o (Dense p) = dense
 
-dense-there : (x y : Mem) (o : Place) (p : ℕ) → isDense x y o (Dense p) ≡ true
+dense-there : (x y : Mem) (o : Place) (p : ℕ) → unionDense x y o (Dense p) ≡ true
 dense-there x y Absent p = refl
 dense-there x y (Sparse r l) p = refl
 dense-there x y (Dense q) p = refl
@@ -198,8 +198,8 @@ result-is {x} {y} w v same c = go (placeOf (head y) (y .table) c) refl
     o : Place
     o = placeOf (head x) (x .table) c
 
-    given : (q : Place) → placeOf (head y) (y .table) c ≡ q → isPlaced q ≡ true → unionMap (stateOf x) (stateOf y) c ≡ cond (isDense x y o q) dense sparse
-    given q e p = result-kind w v same c (ap isPlaced e ∙ p) ∙ ap (λ (i : Place). cond (isDense x y o i) dense sparse) e
+    given : (q : Place) → placeOf (head y) (y .table) c ≡ q → isPlaced q ≡ true → unionMap (stateOf x) (stateOf y) c ≡ cond (unionDense x y o q) dense sparse
+    given q e p = result-kind w v same c (ap isPlaced e ∙ p) ∙ ap (λ (i : Place). cond (unionDense x y o i) dense sparse) e
 
     go : (q : Place) → placeOf (head y) (y .table) c ≡ q → unionMap (stateOf x) (stateOf y) c ≡ kindAfter x y o q
     go Absent e = result-kept x y c e

@@ -26,7 +26,7 @@ use Rattle.layout_laws.proofs.Walked.{laid-walked}
 use Rattle.steps.specs.Effects.{EntryFor}
 use Rattle.calls.specs.Insert.{freeRow}
 use Rattle.calls.proofs.Slots.{lowest}
-use Rattle.unions.specs.Union.{standing, source, chunkOf, sourceEntries, isPlaced, rowsUnion, isDense, sparsely, sparseTo}
+use Rattle.unions.specs.Union.{standing, source, sourceChunk, sourceEntries, isPlaced, rowsUnion, unionDense, sparsely, sparseTo}
 use Rattle.unions.proofs.Standing.{standing-is, source-of}
 use Rattle.unions.proofs.Results.{result-kind}
 use Rattle.unions.proofs.SparseTurns.{copied-turn, rows-turn}
@@ -51,7 +51,7 @@ module _ (x : Mem) {y : Mem} (mode : ranked x ≡ false) (v : Follows y) (same :
 
   module _ (e : ℕ) (l : e < sourceEntries y) (z : Mem) (s : Partly x y half whole e z) where
     abbrev c : ℕ
-    c = chunkOf y e
+    c = sourceChunk y e
 
     abbrev f : Follows z
     f = s .follows
@@ -90,14 +90,14 @@ module _ (x : Mem) {y : Mem} (mode : ranked x ≡ false) (v : Follows y) (same :
       not-dense : state.isDense (map c) ≡ false
       not-dense = half-clear (stateOf x) (stateOf y) c (ap state.isDense (sym (has .kind) ∙ kind-at z c o at) ∙ clear)
 
-      result : cond (isDense z y o (Sparse i k)) dense sparse ≡ map c
+      result : cond (unionDense z y o (Sparse i k)) dense sparse ≡ map c
       result =
-          ap₂ (λ (u j : Place). cond (isDense z y u j) dense sparse) (sym at) (sym from)
+          ap₂ (λ (u j : Place). cond (unionDense z y u j) dense sparse) (sym at) (sym from)
           ∙ sym (result-kind f v shape c (ap isPlaced from))
           ∙ map-still x y z same (s .sizes) c was
 
-      stays-sparse : isDense z y o (Sparse i k) ≡ false
-      stays-sparse = go (isDense z y o (Sparse i k)) result
+      stays-sparse : unionDense z y o (Sparse i k) ≡ false
+      stays-sparse = go (unionDense z y o (Sparse i k)) result
         where
           go : (b : Bool) → cond b dense sparse ≡ map c → b ≡ false
           go true g = absurd (let d = ap state.isDense g ∙ not-dense in let z : _≡_ {A = ℕ} 0 1 = cc in omega arith)
@@ -160,7 +160,7 @@ module _ (x : Mem) {y : Mem} (mode : ranked x ≡ false) (v : Follows y) (same :
     by-places (Dense p) (Sparse i k) at from =
         stays (half-all x y c (half-dense (stateOf x) (stateOf y) c (ap state.isDense (sym (has .kind) ∙ kind-at z c (Dense p) at))))
 
-    pub second-turn : Goes sparse z (sparsely z y (chunkOf y e) (standing z (chunkOf y e)) (source y e)) (chunkOf y e) (united (stateOf x) (stateOf y) Done)
+    pub second-turn : Goes sparse z (sparsely z y (sourceChunk y e) (standing z (sourceChunk y e)) (source y e)) (sourceChunk y e) (united (stateOf x) (stateOf y) Done)
     second-turn =
         by-places (standing z c) (source y e) (sym (standing-is (laid-walked f) c)) (sym (source-of (laid-walked v) e l))
 
@@ -172,5 +172,5 @@ module _ (x : Mem) {y : Mem} (mode : ranked x ≡ false) (v : Follows y) (same :
     second-pass zero l = first
     second-pass (suc e) l = go (sparseTo mid y e) (second-pass e (omega arith))
       where
-        go : (z : Mem) → Partly x y half whole e z → Partly x y half whole (suc e) (sparsely z y (chunkOf y e) (standing z (chunkOf y e)) (source y e))
+        go : (z : Mem) → Partly x y half whole e z → Partly x y half whole (suc e) (sparsely z y (sourceChunk y e) (standing z (sourceChunk y e)) (source y e))
         go z s = partly-more s (laid-walked v) (omega arith) (second-turn e (omega arith) z s)

@@ -38,8 +38,8 @@ use Rattle.steps.proofs.Orders.{paged-wrote}
 use Rattle.steps.proofs.Spares.{LeftSlot, rowed-spare, paged-spare}
 use Rattle.calls.specs.Insert.{freeRow, freePage}
 use Rattle.calls.specs.Prepare.{intoPage}
-use Rattle.unions.specs.Union.{fits, fitted, named, standing, source, chunkOf, sourceEntries, isPlaced, rowsUnion}
-use Rattle.unions.specs.Union.{isDense, pageOf, withSource, joinedPage, densely, denseTo}
+use Rattle.unions.specs.Union.{fits, fitted, named, standing, source, sourceChunk, sourceEntries, isPlaced, rowsUnion}
+use Rattle.unions.specs.Union.{unionDense, pageOf, withSource, joinedPage, densely, denseTo}
 use Rattle.unions.specs.Union.{sparsely, sparseTo, unitedBy, overAfter, leftBy, metIf, unionPlan, unionBy}
 use Rattle.unions.proofs.Results.{same-s, same-m}
 use Rattle.unions.proofs.Judged.{judged-room}
@@ -89,7 +89,7 @@ module _ {x y : Mem} (w : Walked x (head x)) (v : Walked y (head y)) (same : sam
 
   module _ {z : Mem} (s : Sound x y z) (e : ℕ) (l : e < sourceEntries y) where
     abbrev c : ℕ
-    c = chunkOf y e
+    c = sourceChunk y e
 
     module _ (some : isPlaced (source y e) ≡ true) where
       paged-sound : (o : Place) → LeftSlot (head z) z o → (p : ℕ) → p < head z .p → (page : List ℕ) → length page ≡ wide (head z)
@@ -118,9 +118,9 @@ module _ {x y : Mem} (w : Walked x (head x)) (v : Walked y (head y)) (same : sam
       into-sound (Dense p) ok there = s
 
     dense-sound : (o q : Place) → fits (head z) o ≡ true → source y e ≡ q → fits (head y) q ≡ true → Sound x y (densely z y c o q)
-    dense-sound o q ok from ok′ = go (isDense z y o q) refl (ltb (pageOf z o) (head z .p)) refl
+    dense-sound o q ok from ok′ = go (unionDense z y o q) refl (ltb (pageOf z o) (head z .p)) refl
       where
-        go : (a : Bool) → isDense z y o q ≡ a → (b : Bool) → ltb (pageOf z o) (head z .p) ≡ b
+        go : (a : Bool) → unionDense z y o q ≡ a → (b : Bool) → ltb (pageOf z o) (head z .p) ≡ b
             → Sound x y (cond (a && b) (joinedPage (intoPage (head z) z c (pageOf z o) o) y o (pageOf z o) q) z)
         go true d true m =
             let there = ltb-true (pageOf z o) (head z .p) m in
@@ -167,15 +167,15 @@ module _ {x y : Mem} (w : Walked x (head x)) (v : Walked y (head y)) (same : sam
   unfolding denseTo
   dense-all zero l = sound-start y w
   dense-all (suc e) l =
-      dense-sound (dense-all e (omega arith)) e (omega arith) (standing (denseTo x y e) (chunkOf y e)) (source y e)
-      (standing-fits (denseTo x y e) (chunkOf y e)) refl (source-fits y e)
+      dense-sound (dense-all e (omega arith)) e (omega arith) (standing (denseTo x y e) (sourceChunk y e)) (source y e)
+      (standing-fits (denseTo x y e) (sourceChunk y e)) refl (source-fits y e)
 
   sparse-all : (z : Mem) → Sound x y z → (e : ℕ) → e ≤ sourceEntries y → Sound x y (sparseTo z y e)
   unfolding sparseTo
   sparse-all z s zero l = s
   sparse-all z s (suc e) l =
-      sparse-sound (sparse-all z s e (omega arith)) e (omega arith) (standing (sparseTo z y e) (chunkOf y e)) (source y e)
-      (standing-fits (sparseTo z y e) (chunkOf y e)) refl (source-fits y e)
+      sparse-sound (sparse-all z s e (omega arith)) e (omega arith) (standing (sparseTo z y e) (sourceChunk y e)) (source y e)
+      (standing-fits (sparseTo z y e) (sourceChunk y e)) refl (source-fits y e)
 
   pub united-spare : Spare (head x) x (unitedBy x y)
   unfolding unitedBy

@@ -20,7 +20,7 @@ use Rattle.layout.specs.declared.place.Place.the-variants.{Absent, Sparse, Dens
 use Rattle.layout_laws.proofs.Keys.{Sought, found, missed}
 use Rattle.layout_laws.proofs.Entries.{walked-ordered, chunk-below, chunk-rising, chunk-once, place-of-at, entry-of, word-of-none}
 use Rattle.layout_laws.proofs.Short.{word-in-is, owned-of}
-use Rattle.unions.specs.Union.{fits, fitted, named, standing, source, chunkOf, sourceEntries, isPlaced}
+use Rattle.unions.specs.Union.{fits, fitted, named, standing, source, sourceChunk, sourceEntries, isPlaced}
 
 -- ---- a place that is a chunk's own is one of the sizes'
 
@@ -44,30 +44,30 @@ module _ {x : Mem} (w : Walked x (head x)) where
 
   pub source-is : (e : ℕ) → e < sourceEntries x → source x e ≡ placeAt (head x) (x .table) e
   unfolding source
-  source-is e l = fitted-owned (head x) (x .table) (chunkOf x e) (placeAt (head x) (x .table) e) (w .places e l)
+  source-is e l = fitted-owned (head x) (x .table) (sourceChunk x e) (placeAt (head x) (x .table) e) (w .places e l)
 
   -- an entry's place is its chunk's
-  pub source-of : (e : ℕ) → e < sourceEntries x → source x e ≡ placeOf (head x) (x .table) (chunkOf x e)
+  pub source-of : (e : ℕ) → e < sourceEntries x → source x e ≡ placeOf (head x) (x .table) (sourceChunk x e)
   source-of e l = source-is e l ∙ sym (place-of-at (head x) (x .table) (walked-ordered w) e l)
 
-  pub chunk-in : (e : ℕ) → e < sourceEntries x → chunkOf x e < lastChunk (head x)
+  pub chunk-in : (e : ℕ) → e < sourceEntries x → sourceChunk x e < lastChunk (head x)
   chunk-in = chunk-below (head x) (x .table) (walked-ordered w)
 
   -- their chunk ids rise, so that no two have the same
-  pub chunks-rise : Rising (chunkOf x) (sourceEntries x)
+  pub chunks-rise : Rising (sourceChunk x) (sourceEntries x)
   chunks-rise = chunk-rising (head x) (x .table) (walked-ordered w)
 
-  pub chunks-once : (i e : ℕ) → i < sourceEntries x → e < sourceEntries x → chunkOf x i ≡ chunkOf x e → i ≡ e
+  pub chunks-once : (i e : ℕ) → i < sourceEntries x → e < sourceEntries x → sourceChunk x i ≡ sourceChunk x e → i ≡ e
   chunks-once = chunk-once (head x) (x .table) (walked-ordered w)
 
 -- ---- a chunk that is present has an entry
 
-pub in-entry : (x : Mem) (c : ℕ) → placeOf (head x) (x .table) c ≢ Absent → (e : ℕ) × (e < sourceEntries x) × (chunkOf x e ≡ c)
+pub in-entry : (x : Mem) (c : ℕ) → placeOf (head x) (x .table) c ≢ Absent → (e : ℕ) × (e < sourceEntries x) × (sourceChunk x e ≡ c)
 in-entry x c there = go (entry-of (head x) (x .table) c)
   where
-    go : Sought (chunkAt (head x) (x .table)) (entries (head x) (x .table)) c → (e : ℕ) × (e < sourceEntries x) × (chunkOf x e ≡ c)
+    go : Sought (chunkAt (head x) (x .table)) (entries (head x) (x .table)) c → (e : ℕ) × (e < sourceEntries x) × (sourceChunk x e ≡ c)
     go (found e l q) = (e, l, q)
     go (missed none) = absurd (there (ap decoded (word-of-none (head x) (x .table) c none)))
 
-pub placed-entry : (x : Mem) (c : ℕ) → isPlaced (placeOf (head x) (x .table) c) ≡ true → (e : ℕ) × (e < sourceEntries x) × (chunkOf x e ≡ c)
+pub placed-entry : (x : Mem) (c : ℕ) → isPlaced (placeOf (head x) (x .table) c) ≡ true → (e : ℕ) × (e < sourceEntries x) × (sourceChunk x e ≡ c)
 placed-entry x c p = in-entry x c (λ q. placed-not (placeOf (head x) (x .table) c) q p)

@@ -24,7 +24,7 @@ use Rattle.layout.specs.declared.place.Place.{Place}
 use Rattle.layout_laws.proofs.Keys.{Sought, found, missed, seek, cut-count}
 use Rattle.layout_laws.proofs.Walked.{laid-walked}
 use Rattle.calls.proofs.Slots.{Turn, turn-none}
-use Rattle.unions.specs.Union.{chunkOf, sourceEntries, denseTo, sparseTo, unitedBy}
+use Rattle.unions.specs.Union.{sourceChunk, sourceEntries, denseTo, sparseTo, unitedBy}
 use Rattle.unions.specs.Takes.{TakesDenseFirst}
 use Rattle.unions.proofs.Standing.{chunk-in, chunks-rise}
 use Rattle.unions.proofs.Results.{same-last}
@@ -109,39 +109,39 @@ module _ {x y : Mem} (w : Follows x) (v : Follows y) (mode : ranked x ≡ false)
   abbrev mid : Mem
   mid = denseTo x y (sourceEntries y)
 
-  first-goes : (e : ℕ) (l : e < sourceEntries y) → Goes dense (denseTo x y e) (denseTo x y (suc e)) (chunkOf y e) (halfway (stateOf x) (stateOf y))
+  first-goes : (e : ℕ) (l : e < sourceEntries y) → Goes dense (denseTo x y e) (denseTo x y (suc e)) (sourceChunk y e) (halfway (stateOf x) (stateOf y))
   unfolding denseTo
   first-goes e l = first-turn w mode v same over pages e l (denseTo x y e) (first-pass w mode v same over pages e (omega arith))
 
-  second-goes : (e : ℕ) (l : e < sourceEntries y) → Goes sparse (sparseTo mid y e) (sparseTo mid y (suc e)) (chunkOf y e) (united (stateOf x) (stateOf y) Done)
+  second-goes : (e : ℕ) (l : e < sourceEntries y) → Goes sparse (sparseTo mid y e) (sparseTo mid y (suc e)) (sourceChunk y e) (united (stateOf x) (stateOf y) Done)
   unfolding sparseTo
   second-goes e l =
       second-turn x mode v same over rows e l (sparseTo mid y e)
       (second-pass x mode v same over rows mid (halfway-there w mode v same over rows pages) e (omega arith))
 
-  in-last : (e : ℕ) → e < sourceEntries y → chunkOf y e < lastChunk (head x)
+  in-last : (e : ℕ) → e < sourceEntries y → sourceChunk y e < lastChunk (head x)
   in-last e l = let a = chunk-in (laid-walked v) e l in let b = same-last x y same in omega arith
 
   first-rising : TakesRising x mid (lastChunk (head x))
   unfolding denseTo
   first-rising =
-      rising-turns (chunkOf y) (sourceEntries y) (chunks-rise (laid-walked v)) (lastChunk (head x)) in-last (denseTo x y)
+      rising-turns (sourceChunk y) (sourceEntries y) (chunks-rise (laid-walked v)) (lastChunk (head x)) in-last (denseTo x y)
       (λ e l. first-pass w mode v same over pages e l .follows) (λ e l. goes-turn (first-goes e l))
 
   second-rising : TakesRising mid (unitedBy x y) (lastChunk (head x))
   unfolding sparseTo unitedBy
   second-rising =
-      rising-turns (chunkOf y) (sourceEntries y) (chunks-rise (laid-walked v)) (lastChunk (head x)) in-last (sparseTo mid y)
+      rising-turns (sourceChunk y) (sourceEntries y) (chunks-rise (laid-walked v)) (lastChunk (head x)) in-last (sparseTo mid y)
       (λ e l. second-pass x mode v same over rows mid (halfway-there w mode v same over rows pages) e l .follows) (λ e l. goes-turn (second-goes e l))
 
   first-lands : (c : ℕ) → (placeIn mid c ≡ placeIn x c) ⊎ (kinds mid c ≡ dense)
   unfolding denseTo
-  first-lands = lands-all dense (halfway (stateOf x) (stateOf y)) (chunkOf y) (sourceEntries y) (denseTo x y) first-goes (sourceEntries y) (omega arith)
+  first-lands = lands-all dense (halfway (stateOf x) (stateOf y)) (sourceChunk y) (sourceEntries y) (denseTo x y) first-goes (sourceEntries y) (omega arith)
 
   second-lands : (c : ℕ) → (placeIn (unitedBy x y) c ≡ placeIn mid c) ⊎ (kinds (unitedBy x y) c ≡ sparse)
   unfolding sparseTo unitedBy
   second-lands =
-      lands-all sparse (united (stateOf x) (stateOf y) Done) (chunkOf y) (sourceEntries y) (sparseTo mid y) second-goes (sourceEntries y) (omega arith)
+      lands-all sparse (united (stateOf x) (stateOf y) Done) (sourceChunk y) (sourceEntries y) (sparseTo mid y) second-goes (sourceEntries y) (omega arith)
 
   pub union-takes : TakesDenseFirst x (unitedBy x y)
   union-takes = record {

@@ -1,3 +1,3 @@
 pub mod Union
 pub mod Takes
-pub mod Joins
+pub mod Joinable

@@ -52,8 +52,8 @@ standing x c = named (head x) (wordIn (x .table) c)
 unfoldable pub source : Mem → ℕ → Place
 source y e = fitted (head y) (placeAt (head y) (y .table) e)
 
-abbrev pub chunkOf : Mem → ℕ → ℕ
-chunkOf y e = chunkAt (head y) (y .table) e
+abbrev pub sourceChunk : Mem → ℕ → ℕ
+sourceChunk y e = chunkAt (head y) (y .table) e
 
 abbrev pub sourceEntries : Mem → ℕ
 sourceEntries y = entries (head y) (y .table)
@@ -66,26 +66,26 @@ abbrev pub rowsUnion : Mem → Mem → ℕ → ℕ → ℕ → ℕ → List ℕ
 rowsUnion x y r l i k = sparse.union (take l (rowPart (head x) (x .rows) r)) (take k (rowPart (head y) (y .rows) i))
 
 -- whether the union of a chunk, here and there, is dense
-abbrev pub isDense : Mem → Mem → Place → Place → Bool
-isDense x y o Absent = false
-isDense x y Absent (Sparse i k) = false
-isDense x y (Sparse r l) (Sparse i k) = ltb (head x .m) (length (rowsUnion x y r l i k))
-isDense x y (Dense p) (Sparse i k) = true
-isDense x y o (Dense p) = true
+abbrev pub unionDense : Mem → Mem → Place → Place → Bool
+unionDense x y o Absent = false
+unionDense x y Absent (Sparse i k) = false
+unionDense x y (Sparse r l) (Sparse i k) = ltb (head x .m) (length (rowsUnion x y r l i k))
+unionDense x y (Dense p) (Sparse i k) = true
+unionDense x y o (Dense p) = true
 
 -- ---- what the map after needs: of each entry of the source, 0 or 1
 
 unfoldable pub newEntry : Mem → Mem → ℕ → Bool
-newEntry x y e = isPlaced (source y e) && (leb (head x .d) (chunkOf y e) && not (isPlaced (standing x (chunkOf y e))))
+newEntry x y e = isPlaced (source y e) && (leb (head x .d) (sourceChunk y e) && not (isPlaced (standing x (sourceChunk y e))))
 
 unfoldable pub newRow : Mem → Mem → ℕ → Bool
-newRow x y e = hasRow (source y e) && not (isPlaced (standing x (chunkOf y e)))
+newRow x y e = hasRow (source y e) && not (isPlaced (standing x (sourceChunk y e)))
 
 unfoldable pub freedRow : Mem → Mem → ℕ → Bool
-freedRow x y e = isDense x y (standing x (chunkOf y e)) (source y e) && hasRow (standing x (chunkOf y e))
+freedRow x y e = unionDense x y (standing x (sourceChunk y e)) (source y e) && hasRow (standing x (sourceChunk y e))
 
 unfoldable pub newPage : Mem → Mem → ℕ → Bool
-newPage x y e = isDense x y (standing x (chunkOf y e)) (source y e) && not (hasPage (standing x (chunkOf y e)))
+newPage x y e = unionDense x y (standing x (sourceChunk y e)) (source y e) && not (hasPage (standing x (sourceChunk y e)))
 
 abbrev pub overAfter : Mem → Mem → ℕ
 overAfter x y = overCount (x .table) + count (newEntry x y) (sourceEntries y)
@@ -126,12 +126,12 @@ joinedPage x y o p q = mem (putPage (head x) (x .pages) p (withSource y o (pageP
 -- chunk c, here at o and there at q: made dense as preparation does it, then the source's members
 abbrev pub densely : Mem → Mem → ℕ → Place → Place → Mem
 densely x y c o q =
-    cond (isDense x y o q && ltb (pageOf x o) (head x .p)) (joinedPage (intoPage (head x) x c (pageOf x o) o) y o (pageOf x o) q) x
+    cond (unionDense x y o q && ltb (pageOf x o) (head x .p)) (joinedPage (intoPage (head x) x c (pageOf x o) o) y o (pageOf x o) q) x
 
 -- the source's entries in turn
 unfoldable pub denseTo : Mem → Mem → ℕ → Mem
 denseTo x y zero = x
-denseTo x y (suc e) = densely (denseTo x y e) y (chunkOf y e) (standing (denseTo x y e) (chunkOf y e)) (source y e)
+denseTo x y (suc e) = densely (denseTo x y e) y (sourceChunk y e) (standing (denseTo x y e) (sourceChunk y e)) (source y e)
 
 -- ---- second pass: chunks whose result is sparse
 
@@ -156,7 +156,7 @@ sparsely x y c (Dense p) (Sparse i k) = x
 
 unfoldable pub sparseTo : Mem → Mem → ℕ → Mem
 sparseTo x y zero = x
-sparseTo x y (suc e) = sparsely (sparseTo x y e) y (chunkOf y e) (standing (sparseTo x y e) (chunkOf y e)) (source y e)
+sparseTo x y (suc e) = sparsely (sparseTo x y e) y (sourceChunk y e) (standing (sparseTo x y e) (sourceChunk y e)) (source y e)
 
 -- both passes
 unfoldable pub unitedBy : Mem → Mem → Mem

@@ -1,6 +1,6 @@
 -- By where the chunk stands there. Assumes nothing.
 use mathlib.Core.Path.{sym, _∙_, ap, subst}
-use Rattle.unions.specs.Union.{isDense}
+use Rattle.unions.specs.Union.{unionDense}
 use Rattle.merge_plan.specs.Sides.{Side}
 use Rattle.merge_plan.proofs.Dense.{page-dense}
 use borrow.Author.Needs.{needs}
@@ -24,12 +24,12 @@ enum-told-2 c = search needs
 returns : tie.Need-returns
 returns c =
     let a = c .before .before .before .before .args in
-    λ x y here there. ap (isDense x y (a .o)) (sym (c .enum-told .given .1))
+    λ x y here there. ap (unionDense x y (a .o)) (sym (c .enum-told .given .1))
 
 returns-2 : tie.Need-returns-2
 returns-2 c =
     let a = c .before .before .before .before .before .before .args in
-    λ x y here there. c .with-row .ensures x y here there ∙ ap (isDense x y (a .o)) (sym (c .before .before .q .given .1))
+    λ x y here there. c .with-row .ensures x y here there ∙ ap (unionDense x y (a .o)) (sym (c .before .before .q .given .1))
 
 returns-3 : tie.Need-returns-3
 returns-3 c =

@@ -2,7 +2,7 @@
 use mathlib.Core.Path.{sym, ap, subst}
 use Rattle.layout.specs.declared.place.Place.{Place}
 use Rattle.layout.specs.declared.place.Place.the-variants.{Sparse}
-use Rattle.unions.specs.Union.{isDense}
+use Rattle.unions.specs.Union.{unionDense}
 use Rattle.merge_plan.specs.Sides.{Side}
 use Rattle.merge_plan.proofs.Dense.{rows-dense}
 use borrow.Author.Needs.{needs}
@@ -26,7 +26,7 @@ enum-told-2 c = search needs
 returns : tie.Need-returns
 returns c =
     let a = c .before .before .before .before .args in
-    λ x y here there. ap (λ (o : Place). isDense x y o (Sparse (a .i) (a .k))) (sym (c .enum-told .given .1))
+    λ x y here there. ap (λ (o : Place). unionDense x y o (Sparse (a .i) (a .k))) (sym (c .enum-told .given .1))
 
 returns-2 : tie.Need-returns-2
 returns-2 c =
@@ -38,7 +38,7 @@ returns-2 c =
 returns-3 : tie.Need-returns-3
 returns-3 c =
     let a = c .before .before .before .before .args in
-    λ x y here there. ap (λ (o : Place). isDense x y o (Sparse (a .i) (a .k))) (sym (c .enum-told2 .given .1))
+    λ x y here there. ap (λ (o : Place). unionDense x y o (Sparse (a .i) (a .k))) (sym (c .enum-told2 .given .1))
 
 pub with-row-spec : {M : Type 1} → statement M
 with-row-spec =

@@ -1,7 +1,7 @@
 -- A refusal stays one; else the sum, where it fits. Assumes nothing.
 use mathlib.Core.Path.{sym, ap}
 use native.Mathlib.Omega.{arith}
-use Rattle.ranks.specs.Rank.{plus}
+use Rattle.ranks.specs.Rank.{plusBefore}
 use Rattle.ranked.proofs.Belows.{small-of, plus-of, plus-large}
 use borrow.Author.Needs.{needs}
 use Rattle.ranked.proofs.chunk.after.Statement.{statement}
@@ -20,7 +20,7 @@ returns : tie.Need-returns
 returns c = let a = c .before .before .before .before .args in plus-of (a .before) (a .within) _ (c .before .before .within2 .given .1) (c .if1 .taken)
 
 returns-2 : tie.Need-returns-2
-returns-2 c = ap (plus (c .before .before .before .args .before)) (sym (c .before .within .given .1))
+returns-2 c = ap (plusBefore (c .before .before .before .args .before)) (sym (c .before .within .given .1))
 
 returns-3 : tie.Need-returns-3
 returns-3 c = let a = c .before .before .before .before .args in plus-large (a .before) (a .within) _ (c .before .before .within2 .given .1) (c .if1 .left)

@@ -9,7 +9,7 @@ use Rattle.layout.specs.Meaning.{ranked}
 use Rattle.layout.specs.Tests.{Walked}
 use Rattle.unions.specs.Union.{overAfter}
 
-pub record Joins (x y : Mem) : Type 0 where
+pub record Joinable (x y : Mem) : Type 0 where
   pub here : Walked x (head x)
   pub there : Walked y (head y)
   pub mode : ranked x ≡ false
