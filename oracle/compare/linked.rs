@@ -70,6 +70,14 @@ fn listed(r: Listing) -> Said {
     Said::Refused(r.refusal)
 }
 
+fn marked(ranges: &Ranges, call: impl FnOnce(&[i64], &[i64], &mut [u8]) -> Answer) -> Said {
+    match lists::marked(ranges.ends(), ranges.more, call) {
+        Ok((a, marks)) if a.kind == 0 => Said::Marks(marks),
+        Ok((a, _)) => refused(a),
+        Err(wrong) => panic!("{wrong}"),
+    }
+}
+
 impl Set {
     fn answer(&mut self, call: &Call) -> Said {
         let x = &mut self.memory;
@@ -89,7 +97,7 @@ impl Set {
             Call::Has => truth(x.bp_has_any()),
             Call::Chunk(id) => perhaps(x.bp_chunk_of(id)),
             Call::Iter(start) => listed(x.bp_iter_from(start)),
-            Call::Mark(ranges) => lists::marked(&ranges, |lows, highs, marks| x.bp_mark_ends_by_range(lows, highs, marks)),
+            Call::Mark(ranges) => marked(&ranges, |lows, highs, marks| x.bp_mark_ends_by_range(lows, highs, marks)),
             Call::RankUp => ok(x.bp_into_ranked()),
             Call::Open => ok(x.bp_into_open()),
             Call::Rank(id) => number(x.bp_rank(id)),
@@ -129,7 +137,7 @@ impl Set {
 
     fn meet(&self, p: Record, room: usize, k: u64, ranges: &Ranges) -> Said {
         let before = self.bounds.clone();
-        let said = lists::marked(ranges, |lows, highs, marks| planning::mark_ends_by_partition(lows, highs, marks, p, &self.bounds[..room], k));
+        let said = marked(ranges, |lows, highs, marks| planning::mark_ends_by_partition(lows, highs, marks, p, &self.bounds[..room], k));
         assert!(self.bounds == before, "a boundary changed");
         said
     }

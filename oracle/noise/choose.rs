@@ -25,17 +25,22 @@ fn id(g: &mut Random, x: &Memory, z: Sizes) -> i64 {
     (chunk << s | offset % (1 << s)) as i64 & i64::MAX
 }
 
-/// Two ids for a range test: the same one twice, near each other or anywhere, ends that take in all on one side, and the wrong way round.
-fn range(g: &mut Random, x: &Memory, z: Sizes) -> Call {
+/// Low and high end of a range: the same id twice, two near each other or anywhere, ends that take in all on one side, and the wrong way round.
+pub fn ends(g: &mut Random, x: &Memory, z: Sizes) -> (i64, i64) {
     let (a, b) = (id(g, x, z), id(g, x, z));
     match g.below(8) {
-        0 => Call::Any(a, a),
-        1 => Call::Any(a, a.saturating_add(g.below(3 << z.s) as i64)),
-        2 => Call::Any(i64::MIN, a),
-        3 => Call::Any(a, i64::MAX),
-        4 => Call::Any(a.max(b), a.min(b)),
-        _ => Call::Any(a.min(b), a.max(b)),
+        0 => (a, a),
+        1 => (a, a.saturating_add(g.below(3 << z.s) as i64)),
+        2 => (i64::MIN, a),
+        3 => (a, i64::MAX),
+        4 => (a.max(b), a.min(b)),
+        _ => (a.min(b), a.max(b)),
     }
+}
+
+fn range(g: &mut Random, x: &Memory, z: Sizes) -> Call {
+    let (min, max) = ends(g, x, z);
+    Call::Any(min, max)
 }
 
 /// Sizes for set-up: those of memory, small ones, and some with a number outside the table of sizes or too large for memory.

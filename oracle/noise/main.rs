@@ -1,12 +1,16 @@
 //! Calls on memory that no call made: made sets with words poked into them, and pure noise. The check is compared with a second one, every call
 //! answers what document 01 lets it, a refusal and a reading call leave all as it was, and where memory follows the layout answer and memory after
-//! are the plain set's; where it doesn't, the answer falls under a row of docs/EXCEPTIONS.md, and every row comes up. Unions are made of two such memories.
+//! are the plain set's; where it doesn't, the answer falls under a row of docs/EXCEPTIONS.md, and every row comes up. Unions are made of two such memories;
+//! marks of a range list are what the range test answers.
 //! Arguments: how many times the usual number of rounds, the seed, and for one round alone its sizes' place and its number.
 mod bad;
 mod call;
 mod choose;
 #[path = "../library.rs"]
 mod library;
+#[path = "../compare/lists.rs"]
+mod lists;
+mod marks;
 mod other;
 mod plain;
 #[path = "../compare/planning.rs"]
@@ -80,6 +84,7 @@ struct Run {
     /// Answers under each row of docs/EXCEPTIONS.md.
     rows: [u64; NAMES.len()],
     unions: unions::Tally,
+    lists: marks::Tally,
 }
 
 impl Run {
@@ -202,7 +207,7 @@ impl Run {
     fn partitions(&mut self, g: &mut Random) {
         for _ in 0..8 {
             let refusal = records::partition(g).unwrap_or_else(|difference| panic!("{}: {difference}", self.place));
-            self.calls += 2;
+            self.calls += 3;
             self.refusals[refusal as usize] += 1;
         }
     }
@@ -212,6 +217,7 @@ impl Run {
         let mut judged = self.judge(&mut before);
         let mut work = before.clone();
         self.plan(g, &before, &judged, &mut work);
+        self.list(g, &before, &mut judged, &mut work, z);
         for call in choose::every_call(g, &before, z) {
             self.one(g, call, &before, &mut judged, &mut work);
             if work != before {
@@ -286,6 +292,7 @@ impl Run {
         let rows: Vec<String> = NAMES.iter().zip(self.rows).map(|(name, n)| format!("{name} {n}")).collect();
         println!("noise: answers by the rows of docs/EXCEPTIONS.md: {}", rows.join(", "));
         println!("noise: unions {}", self.unions);
+        println!("noise: range lists {}", self.lists);
     }
 
     /// The ends of the table of sizes, which no small memory shows.
@@ -324,6 +331,7 @@ fn main() {
         assert!(run.alone[1..].iter().all(|&n| n > 0), "a rule was never broken alone");
         assert!(run.refusals[1..].iter().all(|&n| n > 0), "a refusal never came up");
         assert!(run.unions.all_came_up(), "a kind of union never came up");
+        assert!(run.lists.all_came_up(), "a kind of range list never came up");
         assert!(run.goes_on.iter().all(|&n| n > 0), "a record that goes on never came up");
         assert!(run.rows.iter().all(|&n| n > 0), "a row of docs/EXCEPTIONS.md never came up");
     }

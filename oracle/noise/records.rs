@@ -1,6 +1,9 @@
-//! Plan records, which come from the caller: what `ids` and `ranks` answer on any of them, by document 01.
+//! Plan records, which come from the caller: what `ids`, `ranks` and the range list by partition answer on any of them, by document 01.
 use crate::call::Record;
-use crate::planning::{ids, ranks};
+use crate::library::{DONE, refused};
+use crate::lists::marked;
+use crate::marks::more;
+use crate::planning::{ids, mark_ends_by_partition, ranks};
 use crate::poke::Random;
 
 /// Members to a partition: those that give a few partitions, and the ends.
@@ -46,11 +49,31 @@ fn record(g: &mut Random) -> Record {
     p
 }
 
+/// An end of a range: of i64, a boundary or one beside it, or any.
+fn end(g: &mut Random, bounds: &[i64]) -> i64 {
+    match g.below(4) {
+        0 => g.pick(&[i64::MIN, i64::MAX]),
+        1 => g.next() as i64,
+        _ if bounds.is_empty() => g.below(9) as i64,
+        _ => g.pick(bounds).saturating_add(g.below(3) as i64 - 1),
+    }
+}
+
+/// The marks of up to three ranges by this partition, or what is wrong with them.
+fn list(g: &mut Random, p: Record, bounds: &[i64], k: u64) -> Result<(), String> {
+    let ends: Vec<(i64, i64)> = (0..g.below(4)).map(|_| (end(g, bounds), end(g, bounds))).collect();
+    let meets = |(low, high): (i64, Option<i64>)| ends.iter().map(|&(min, max)| max >= low && high.is_none_or(|h| min < h)).collect();
+    let wanted = wanted_ids(p, bounds, k).map_or_else(|no| (refused(no), vec![]), |interval| (DONE, meets(interval)));
+    let told = marked(&ends, more(g), |lows, highs, marks| mark_ends_by_partition(lows, highs, marks, p, bounds, k));
+    if told.as_ref() == Ok(&wanted) { Ok(()) } else { Err(format!("the range list {ends:?} by partition {k} of {p:?} is told {told:?} and not {wanted:?}")) }
+}
+
 /// One partition of one record: the refusal number or 0, or what was asked where the library answers otherwise.
 pub fn partition(g: &mut Random) -> Result<u64, String> {
     let p = record(g);
     let k = g.pick(&[0, 1, 2, p.partitions.wrapping_sub(1), p.partitions, p.partitions.wrapping_add(1), u64::MAX]);
     let bounds: Vec<i64> = (0..g.below(9)).map(|_| g.next() as i64).collect();
+    list(g, p, &bounds, k)?;
     let (a, b) = (ids(p, &bounds, k), ranks(p, k));
     let wanted = match wanted_ids(p, &bounds, k) {
         Ok((low, None)) => (0, 0, low, 0),

@@ -2,7 +2,8 @@
 //! after the other.
 use crate::bad::Bad;
 use crate::call::{Call, Call::*, Said, listed};
-use crate::library::{Answer, DONE, Memory, NONE, Sizes};
+use crate::library::{Answer, DONE, Memory, NONE, Sizes, refused, value};
+use crate::lists::marked;
 use crate::rows::{NAMES, Row};
 use crate::second;
 use crate::unions::{Join, Pair};
@@ -28,9 +29,11 @@ enum Ask {
     GoesOn(i64, i64),
     /// Planning with so many members to a partition: total and boundaries, or 3.
     Plan(u64, Option<(u64, &'static [i64])>),
+    /// Marks of a range list by range test, or 3.
+    Marks(&'static [(i64, i64)], Option<&'static [bool]>),
 }
 
-use Ask::{GoesOn, List, Of, Plan};
+use Ask::{GoesOn, List, Marks, Of, Plan};
 
 /// A row's name, or none where the first call is refused; s m D V R P; calls that make the set; pokes; calls and their answers.
 type Case = (&'static str, [u64; 6], &'static [Call], &'static [Poke], &'static [Ask]);
@@ -54,7 +57,7 @@ const SIXTY_FOUR: [Call; 64] = {
     sets
 };
 
-const CASES: [Case; 38] = [
+const CASES: [Case; 40] = [
     (
         "order", [9, 1, 0, 3, 3, 0], &[Set(512), Set(1024)], &[Table(16, 2), Table(19, 1)],
         &[Of(Get(512), NO), Of(Any(0, 512), NO), List(0, &[1024, 512]), Of(SetIfNew(512), YES), Of(Chunks, THREE)],
@@ -77,7 +80,10 @@ const CASES: [Case; 38] = [
     ("words", [9, 1, 1, 0, 0, 0], &[], &[Table(16, 2)], &[Of(Chunks, YES), Of(HasAny, YES), Of(Len, BAD)]),
     (
         "falling", [9, 3, 1, 0, 1, 0], &[Set(1), Set(2), Set(3)], &[Rows(0, 9)],
-        &[Of(Get(2), NO), Of(Any(2, 3), NO), List(2, &[9, 2, 3]), List(4, &[]), Of(Len, THREE), Of(IntoRanked, DONE), Of(Rank(2), NO), Of(RankIfSet(2), NONE)],
+        &[
+            Of(Get(2), NO), Of(Any(2, 3), NO), Marks(&[(2, 3), (2, 9)], Some(&[false, true])), List(2, &[9, 2, 3]), List(4, &[]), Of(Len, THREE),
+            Of(IntoRanked, DONE), Of(Rank(2), NO), Of(RankIfSet(2), NONE),
+        ],
     ),
     ("falling", [9, 3, 1, 0, 1, 0], &[Set(1), Set(2)], &[Rows(0, 9)], &[Of(SetIfNew(2), YES), Of(Len, THREE)]),
     ("far", [9, 1, 1, 0, 1, 1], &[Set(5)], &[Rows(0, 517)], &[List(6, &[5]), Of(Len, YES), Of(SetIfNew(6), YES), Of(Get(5), YES)]),
@@ -97,12 +103,20 @@ const CASES: [Case; 38] = [
     ("written over", [9, 1, 0, 0, 0, 0], &[IntoRanked], &[Table(8, 1)], &[Of(IntoOpen, DONE), Of(Check, YES)]),
     (
         "negative", [9, 1, 1, 0, 0, 0], &[], &[Table(16, 1)],
-        &[Of(Get(-1), NO), Of(Any(-5, -1), NO), Of(Any(1, 0), NO), Of(Get(0), BAD), Of(Any(-5, 0), BAD), Of(Iter(-1), BAD)],
+        &[Of(Get(-1), NO), Of(Any(-5, -1), NO), Of(Any(1, 0), NO), Of(Get(0), BAD), Of(Any(-5, 0), BAD), Of(Iter(-1), BAD), Marks(&[(1, 0)], None)],
     ),
+    ("negative", [9, 1, 0, 0, 0, 0], &[], &[Table(8, 1)], &[Marks(&[(-5, -1), (1, 0)], Some(&[false, false]))]),
     ("sizes", [9, 1, 0, 0, 0, 0], &[], &[Short(1)], &[Of(ChunkOf(5), NO), Of(Rank(5), refusal(5)), Of(Get(5), BAD), Of(Any(1, 0), BAD), Of(Iter(0), BAD)]),
-    ("elsewhere", [9, 1, 1, 0, 0, 0], &[], &[Table(9, 1)], &[Of(Get(0), NO), Of(Any(0, 0), NO), List(0, &[]), Of(SetIfNew(0), refusal(7))]),
+    (
+        "elsewhere", [9, 1, 1, 0, 0, 0], &[], &[Table(9, 1)],
+        &[Of(Get(0), NO), Of(Any(0, 0), NO), List(0, &[]), Marks(&[(0, 0)], None), Of(SetIfNew(0), refusal(7))],
+    ),
+    ("elsewhere", ONE, &[Set(0)], &[Table(8, 1)], &[Marks(&[(0, 0), (1, 1)], Some(&[true, false]))]),
     // a hit, or a full record and a hit past it, before a part that is refused
-    ("elsewhere", [9, 1, 2, 0, 1, 0], &[Set(0)], &[Table(18, 1 << 28)], &[Of(Any(0, 512), YES), Of(Any(1, 512), BAD), Of(Iter(0), BAD)]),
+    (
+        "elsewhere", [9, 1, 2, 0, 1, 0], &[Set(0)], &[Table(18, 1 << 28)],
+        &[Of(Any(0, 512), YES), Of(Any(1, 512), BAD), Of(Iter(0), BAD), Marks(&[(0, 512)], None)],
+    ),
     ("elsewhere", [9, 1, 2, 0, 0, 1], &[PreAllocate(0)], &[Pages(0, u64::MAX), Pages(1, 1), Table(18, 1)], &[GoesOn(0, 64), Of(Iter(1), BAD)]),
     // a chunk id that no id has
     ("elsewhere", [9, 1, 0, 1, 1, 0], &[Set(0)], &[Table(16, 1 << 54)], &[Of(Any(0, i64::MAX), NO), Of(Iter(0), BAD)]),
@@ -110,7 +124,7 @@ const CASES: [Case; 38] = [
     ("", [9, 2, 0, 0, 1, 0], &[], &[Table(7, 1), Table(17, 2)], &[Of(SetIfNew(5), BAD)]),
     ("", [9, 2, 0, 0, 3, 0], &[], &[Table(7, 1), Table(17, 2)], &[Of(SetIfNew(5), BAD)]),
     ("", [9, 1, 1, 0, 0, 1], &[], &[Table(18, 7)], &[Of(PreAllocate(0), BAD)]),
-    ("", TINY, &[Set(0), Set(5), IntoRanked], &[Table(17, 1 << 63)], &[Of(Rank(5), BAD), Plan(1, None)]),
+    ("", TINY, &[Set(0), Set(5), IntoRanked], &[Table(17, 1 << 63)], &[Of(Rank(5), BAD), Plan(1, None), Marks(&[(5, 5)], None)]),
     ("", [9, 1, 1, 0, 0, 0], &[], &[Table(16, 2), Rows(0, 5)], &[Of(Get(5), BAD)]),
 ];
 
@@ -160,12 +174,12 @@ fn poke(x: &mut Memory, p: Poke) {
     }
 }
 
-/// What was said, but of a plan.
-fn ask(x: &mut Memory, ask: Ask, of: &str) -> Option<(Call, Said)> {
+/// What was said, but of a plan; a mark is what the range test says.
+fn ask(x: &mut Memory, ask: Ask, of: &str) -> Vec<(Call, Said)> {
     let mut same = |call: Call, wanted: Said| {
         let said = call.make(x);
         assert_eq!(said, wanted, "smallest input of {of}: {call:?}");
-        Some((call, said))
+        vec![(call, said)]
     };
     match ask {
         Of(call, wanted) => same(call, if wanted.kind == 2 { call.refused(wanted.value) } else { wanted.into() }),
@@ -173,14 +187,20 @@ fn ask(x: &mut Memory, ask: Ask, of: &str) -> Option<(Call, Said)> {
         GoesOn(start, next) => {
             let said = Iter(start).make(x);
             assert!(matches!(&said, Said::Listed(r) if r.count == 64 && !r.end && r.next == next), "smallest input of {of}: a record that goes on is {said:?}");
-            Some((Iter(start), said))
+            vec![(Iter(start), said)]
+        }
+        Marks(ends, wanted) => {
+            let told = marked(ends, [0; 3], |lows, highs, marks| x.bp_mark_ends_by_range(lows, highs, marks));
+            let marks = wanted.unwrap_or_default();
+            assert_eq!(told, Ok((wanted.map_or(refused(3), |_| DONE), marks.to_vec())), "smallest input of {of}: the range list {ends:?}");
+            ends.iter().zip(marks).map(|(&(low, high), &mark)| (Any(low, high), value(mark.into()).into())).collect()
         }
         Plan(slots, wanted) => {
             let mut bounds = [0; 4];
             let a = x.plan(slots, &mut bounds);
             let told = (a.kind == 1).then(|| (a.total, &bounds[..a.partitions as usize - 1]));
             assert!(told == wanted && (a.kind == 1 || a.refusal == 3), "smallest input of {of}: planning with {slots} answers {told:?}");
-            None
+            vec![]
         }
     }
 }
@@ -213,7 +233,7 @@ pub fn run() {
         let (poked, bad, of) = (x.clone(), Bad::new(&x, broken), if name.is_empty() { "a refusal" } else { name });
         for &a in asks {
             let as_poked = x == poked;
-            if let Some((call, said)) = ask(&mut x, a, of).filter(|(_, said)| as_poked && said.refusal().is_none()) {
+            for (call, said) in ask(&mut x, a, of).into_iter().filter(|(_, said)| as_poked && said.refusal().is_none()) {
                 assert_eq!(bad.row_of(&poked, call, &said).map(Row::name), Ok(name), "smallest input: {call:?}");
             }
         }

@@ -52,7 +52,7 @@ use Rattle.contracts.proofs.Steps.{does}
 use Rattle.contracts.proofs.SetUps.{sets-up}
 use Rattle.contracts.proofs.Joins.{joins}
 use Rattle.promises.proofs.Unique.{asked, asked-once, asked-some}
-use Rattle.promises.specs.Cases.{tiny, zeros, statedBy, answers, reached, heard, start, Past, fresh, _then_, took, gave, stated, memory, Case, calls, unites, asks, kind, row, page, whole, plain, Says, AllSay, memoryRows, plainRows, table}
+use Rattle.promises.specs.Cases.{tiny, blankMem, statedBy, answers, reached, heard, start, Past, fresh, _then_, took, gave, stated, memory, Case, calls, unites, asks, kind, row, page, whole, plain, Says, AllSay, memoryRows, plainRows, table}
 
 -- ---- the ids of a row are i64
 
@@ -109,7 +109,7 @@ along x q (c ∷ cs) w s u =
 
 start-made : Follows start × (stateOf start ≡ empty tiny)
 unfolding inRange roomy
-start-made = let m = sets-up tiny zeros {a = setUpBy tiny zeros .answer} {y = start} refl .made (range-of tiny .sound refl) (room-of tiny zeros .sound refl) in (m .1, m .2)
+start-made = let m = sets-up tiny blankMem {a = setUpBy tiny blankMem .answer} {y = start} refl .made (range-of tiny .sound refl) (room-of tiny blankMem .sound refl) in (m .1, m .2)
 
 -- what a past leaves
 pub record Stands (p : Past) : Type 0 where

@@ -32,8 +32,8 @@ use Rattle.contracts.specs.Does.{Answers}
 abbrev pub tiny : Sizes
 tiny = sizesOf 9 4 2 1 2 1
 
-abbrev pub zeros : Mem
-zeros = mem (replicate 8 0) (replicate 8 0) (replicate 1 0) (replicate 26 0)
+abbrev pub blankMem : Mem
+blankMem = mem (replicate 8 0) (replicate 8 0) (replicate 1 0) (replicate 26 0)
 
 -- ---- calls one after the other: by document 01's words, and by the models of the contracts
 
@@ -55,7 +55,7 @@ heard x (c ∷ cs) = ranBy x c .answer ∷ heard (ranBy x c .after) cs
 
 -- a fresh set
 abbrev pub start : Mem
-start = setUpBy tiny zeros .after
+start = setUpBy tiny blankMem .after
 
 -- ---- how a set came about, and what it then is: by document 01's words, and by the models
 
