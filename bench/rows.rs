@@ -1,0 +1,24 @@
+//! Calls on sparse chunks of a thousand ids each.
+use crate::ids::{Random, in_chunks};
+use crate::idset::IdSet;
+use crate::library::{DONE, Memory, Sizes};
+use crate::table::Table;
+use crate::{Scale, dense, sum};
+
+/// Room for so many chunks as sparse ones.
+pub fn sizes(chunks: u64) -> Sizes {
+    Sizes { s: 25, m: 1024, d: 262_144, v: 16, r: chunks, p: 0 }
+}
+
+pub fn run(scale: &Scale, table: &mut Table) {
+    let rising = in_chunks(scale.chunks, 1000);
+    let mixed = Random::new(4).mixed(&rising);
+    let (z, asked) = (sizes(scale.chunks as u64), &mixed[..rising.len() / 5]);
+    let mut x = Memory::new(z);
+    for _ in 0..scale.rounds {
+        assert_eq!(x.bp_set_up(z), DONE);
+        let mut rust = IdSet::new();
+        dense::inserts("insert rising into rows", &rising, &mut x, &mut rust, table);
+        table.both("`get` random in rows", asked.len(), || sum(asked, |id| x.bp_get(id).value), || sum(asked, |id| u64::from(rust.get(id))));
+    }
+}
