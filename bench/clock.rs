@@ -1,6 +1,6 @@
-//! How long something takes: the processor's time that it had, which other processes don't lengthen by their turns.
+//! How long something takes: the processor's time that it had, which other processes don't lengthen by their turns, or the time that a customer waits.
 use std::hint::black_box;
-use std::time::Duration;
+use std::time::{Duration, Instant};
 
 #[repr(C)]
 struct Timespec {
@@ -25,4 +25,10 @@ pub fn worked<T>(call: impl FnOnce() -> T) -> (Duration, T) {
     let begin = of_thread();
     let answer = black_box(call());
     (of_thread() - begin, answer)
+}
+
+pub fn waited<T>(call: impl FnOnce() -> T) -> (Duration, T) {
+    let begin = Instant::now();
+    let answer = black_box(call());
+    (begin.elapsed(), answer)
 }

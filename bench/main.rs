@@ -1,5 +1,6 @@
 //! The library beside the Rust that it was carried over from, in one process and on the same ids.
-//! `calls full|small PICTURE`: the table of calls; `counted CALL SIDE`: a loop for callgrind.
+//! `calls full|small PICTURE`: the table of calls; `counted CALL SIDE`: a loop for callgrind; `afternoon full|small SIDE`: the customer's run on one side.
+mod afternoon;
 #[allow(dead_code)]
 mod call;
 mod clock;
@@ -20,6 +21,7 @@ mod picture;
 #[allow(dead_code)]
 mod planning;
 mod rows;
+mod sides;
 mod table;
 mod unions;
 
@@ -104,6 +106,7 @@ fn main() {
         ["calls", "full", picture] => calls(&FULL, picture),
         ["calls", "small", picture] => calls(&SMALL, picture),
         ["counted", call, side] => instructions::run(call, side),
+        ["afternoon", scale, side] => afternoon::run(scale == "full", side),
         _ => panic!("no such words: {words:?}"),
     }
 }
