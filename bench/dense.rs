@@ -31,29 +31,24 @@ pub fn prepared(x: &mut Memory, last: i64) -> IdSet {
     rust
 }
 
-pub fn inserts(name: &str, ids: &[i64], x: &mut Memory, rust: &mut IdSet, table: &mut Table) {
-    table.both(name, ids.len(), || sum(ids, |id| x.bp_set_if_new(id).value), || sum(ids, |id| u64::from(rust.set_if_new(id))));
-}
-
-fn put(ids: &[i64], rust: &mut IdSet) -> u64 {
-    ids.iter().for_each(|&id| rust.set(id));
-    0
+fn inserts(name: &str, ids: &[i64], x: &mut Memory, rust: &mut IdSet, table: &mut Table) {
+    table.over(name, ids, |ids| sum(ids, |id| x.bp_set_if_new(id).value), |ids| sum(ids, |id| u64::from(rust.set_if_new(id))));
 }
 
 /// Calls on an open set of these ids.
 fn open(rising: &[i64], asked: &[i64], x: &mut Memory, rust: &mut IdSet, table: &mut Table) {
-    table.both("`set` rising, dense, of members", rising.len(), || sum(rising, |id| x.bp_set(id).kind), || put(rising, rust));
+    let set = |ids: &[i64]| {
+        ids.iter().for_each(|&id| rust.set(id));
+        0
+    };
+    table.over("`set` rising, dense, of members", rising, |ids| sum(ids, |id| x.bp_set(id).kind), set);
     let chunks = || black_box(&*rust).allocated_chunk_count() as u64;
     table.both("`allocated_chunk_count`", AGAIN, || again(AGAIN, || x.bp_allocated_chunk_count().value), || again(AGAIN, chunks));
     let empty = || u64::from(black_box(&*rust).is_empty());
     table.both("`is_empty`", AGAIN, || again(AGAIN, || x.bp_is_empty().value), || again(AGAIN, empty));
     table.both("`len`", 1, || x.bp_len().value, || rust.len());
-    table.both(
-        "`any_in_range` random, ten ids",
-        asked.len(),
-        || sum(asked, |id| x.bp_any_in_range(id + 1, id + 10).value),
-        || sum(asked, |id| u64::from(rust.any_in_range(id + 1, id + 10))),
-    );
+    let any = |ids: &[i64]| sum(ids, |id| u64::from(rust.any_in_range(id + 1, id + 10)));
+    table.over("`any_in_range` random, ten ids", asked, |ids| sum(ids, |id| x.bp_any_in_range(id + 1, id + 10).value), any);
     table.both("iteration, an id", rising.len(), || listed(x), || rust.iter().fold(0, |all, id| all ^ id as u64));
     table.alone("full check, open", || x.bp_check());
 }
@@ -66,10 +61,10 @@ fn listed(x: &mut Memory) -> u64 {
 
 /// Calls on a ranked one.
 fn ranked(asked: &[i64], x: &mut Memory, rust: &RankedIdSet, table: &mut Table) {
-    let calls = asked.len();
-    table.both("`get` random", calls, || sum(asked, |id| x.bp_get(id).value), || sum(asked, |id| u64::from(rust.get(id))));
-    table.both("`rank` random", calls, || sum(asked, |id| x.bp_rank(id).value), || sum(asked, |id| rust.rank(id)));
-    table.both("`rank_if_set` random", calls, || sum(asked, |id| x.bp_rank_if_set(id).value), || sum(asked, |id| rust.rank_if_set(id).unwrap_or(0)));
+    table.over("`get` random", asked, |ids| sum(ids, |id| x.bp_get(id).value), |ids| sum(ids, |id| u64::from(rust.get(id))));
+    table.over("`rank` random", asked, |ids| sum(ids, |id| x.bp_rank(id).value), |ids| sum(ids, |id| rust.rank(id)));
+    let rank_if_set = |ids: &[i64]| sum(ids, |id| rust.rank_if_set(id).unwrap_or(0));
+    table.over("`rank_if_set` random", asked, |ids| sum(ids, |id| x.bp_rank_if_set(id).value), rank_if_set);
     let slots = rust.total_count().div_ceil(PARTITIONS as u64);
     table.both("a boundary of a plan of 200", PARTITIONS - 1, || planned(x, slots), || sum(&locations::planned(rust, slots).0, |id| id as u64));
     table.alone("full check, ranked", || x.bp_check());

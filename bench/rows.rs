@@ -3,7 +3,7 @@ use crate::ids::{Random, in_chunks};
 use crate::idset::IdSet;
 use crate::library::{DONE, Memory, Sizes};
 use crate::table::Table;
-use crate::{Scale, dense, sum};
+use crate::{Scale, sum};
 
 /// Room for so many chunks as sparse ones.
 pub fn sizes(chunks: u64) -> Sizes {
@@ -18,7 +18,9 @@ pub fn run(scale: &Scale, table: &mut Table) {
     for _ in 0..scale.rounds {
         assert_eq!(x.bp_set_up(z), DONE);
         let mut rust = IdSet::new();
-        dense::inserts("insert rising into rows", &rising, &mut x, &mut rust, table);
-        table.both("`get` random in rows", asked.len(), || sum(asked, |id| x.bp_get(id).value), || sum(asked, |id| u64::from(rust.get(id))));
+        // all at once: what a row costs depends on how many there are
+        let (library, other) = (|| sum(&rising, |id| x.bp_set_if_new(id).value), || sum(&rising, |id| u64::from(rust.set_if_new(id))));
+        table.both("insert rising into rows", rising.len(), library, other);
+        table.over("`get` random in rows", asked, |ids| sum(ids, |id| x.bp_get(id).value), |ids| sum(ids, |id| u64::from(rust.get(id))));
     }
 }

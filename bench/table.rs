@@ -39,6 +39,9 @@ const ROWS: [(&str, Unit); 24] = [
     ("full check, ranked", MS),
 ];
 
+/// Turns in a round over many ids.
+const PARTS: usize = 8;
+
 pub struct Row {
     pub name: &'static str,
     unit: Unit,
@@ -84,6 +87,13 @@ impl Table {
     pub fn both(&mut self, name: &str, calls: usize, library: impl FnOnce() -> u64, rust: impl FnOnce() -> u64) {
         let (library, rust) = in_turn(name, library, rust);
         self.keep(name, calls, library, Some(rust));
+    }
+
+    /// A loop over these ids on either side, some of them at a time. The loop is the caller's: a call by itself would read its lent slices anew each time.
+    pub fn over(&mut self, name: &str, ids: &[i64], mut library: impl FnMut(&[i64]) -> u64, mut rust: impl FnMut(&[i64]) -> u64) {
+        for part in ids.chunks(ids.len().div_ceil(PARTS)) {
+            self.both(name, part.len(), || library(part), || rust(part));
+        }
     }
 
     /// A call that the Rust has not: it has to answer yes.
