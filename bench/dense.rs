@@ -26,13 +26,13 @@ pub fn prepared(x: &mut Memory, last: i64) -> IdSet {
     let mut rust = IdSet::new();
     rust.pre_allocate(last);
     for id in (0..=last).step_by(TOUCH) {
-        assert_eq!(x.bp_set_if_new(id).value == 1, rust.set_if_new(id));
+        assert_eq!(x.bp_set_if_new(id).yes, rust.set_if_new(id));
     }
     rust
 }
 
 fn inserts(name: &str, ids: &[i64], x: &mut Memory, rust: &mut IdSet, table: &mut Table) {
-    table.over(name, ids, |ids| sum(ids, |id| x.bp_set_if_new(id).value), |ids| sum(ids, |id| u64::from(rust.set_if_new(id))));
+    table.over(name, ids, |ids| sum(ids, |id| u64::from(x.bp_set_if_new(id).yes)), |ids| sum(ids, |id| u64::from(rust.set_if_new(id))));
 }
 
 /// Calls on an open set of these ids.
@@ -41,14 +41,14 @@ fn open(rising: &[i64], asked: &[i64], x: &mut Memory, rust: &mut IdSet, table: 
         ids.iter().for_each(|&id| rust.set(id));
         0
     };
-    table.over("`set` rising, dense, of members", rising, |ids| sum(ids, |id| x.bp_set(id).kind), set);
+    table.over("`set` rising, dense, of members", rising, |ids| sum(ids, |id| x.bp_set(id).refusal), set);
     let chunks = || black_box(&*rust).allocated_chunk_count() as u64;
     table.both("`allocated_chunk_count`", AGAIN, || again(AGAIN, || x.bp_allocated_chunk_count().value), || again(AGAIN, chunks));
     let empty = || u64::from(black_box(&*rust).is_empty());
-    table.both("`is_empty`", AGAIN, || again(AGAIN, || x.bp_is_empty().value), || again(AGAIN, empty));
+    table.both("`is_empty`", AGAIN, || again(AGAIN, || u64::from(x.bp_is_empty().yes)), || again(AGAIN, empty));
     table.both("`len`", 1, || x.bp_len().value, || rust.len());
     let any = |ids: &[i64]| sum(ids, |id| u64::from(rust.any_in_range(id + 1, id + 10)));
-    table.over("`any_in_range` random, ten ids", asked, |ids| sum(ids, |id| x.bp_any_in_range(id + 1, id + 10).value), any);
+    table.over("`any_in_range` random, ten ids", asked, |ids| sum(ids, |id| u64::from(x.bp_any_in_range(id + 1, id + 10).yes)), any);
     table.both("iteration, an id", rising.len(), || listed(x), || rust.iter().fold(0, |all, id| all ^ id as u64));
     table.alone("full check, open", || x.bp_check());
 }
@@ -61,7 +61,7 @@ fn listed(x: &mut Memory) -> u64 {
 
 /// Calls on a ranked one.
 fn ranked(asked: &[i64], x: &mut Memory, rust: &RankedIdSet, table: &mut Table) {
-    table.over("`get` random", asked, |ids| sum(ids, |id| x.bp_get(id).value), |ids| sum(ids, |id| u64::from(rust.get(id))));
+    table.over("`get` random", asked, |ids| sum(ids, |id| u64::from(x.bp_get(id).yes)), |ids| sum(ids, |id| u64::from(rust.get(id))));
     table.over("`rank` random", asked, |ids| sum(ids, |id| x.bp_rank(id).value), |ids| sum(ids, |id| rust.rank(id)));
     let rank_if_set = |ids: &[i64]| sum(ids, |id| rust.rank_if_set(id).unwrap_or(0));
     table.over("`rank_if_set` random", asked, |ids| sum(ids, |id| x.bp_rank_if_set(id).value), rank_if_set);
@@ -90,7 +90,7 @@ pub fn run(scale: &Scale, table: &mut Table) {
         inserts("insert random, dense", &mixed, &mut x, &mut rust, table);
         open(&rising, asked, &mut x, &mut rust, table);
         let mut by_rank = None;
-        table.both("ranking", 1, || x.bp_into_ranked().kind, || u64::from(by_rank.insert(rust.into_ranked()).get(-1)));
+        table.both("ranking", 1, || x.bp_into_ranked().refusal, || u64::from(by_rank.insert(rust.into_ranked()).get(-1)));
         ranked(asked, &mut x, &by_rank.expect("a ranked set"), table);
     }
 }

@@ -12,7 +12,7 @@ const MARKS: [(usize, &str); 4] =
 const ALL: &str = "one id in each of 65,536 chunks";
 
 fn inserted(ids: &[i64], x: &mut Memory, rust: &mut IdSet) -> (Duration, Duration) {
-    in_turn("a new chunk", || sum(ids, |id| x.bp_set_if_new(id).value), || sum(ids, |id| u64::from(rust.set_if_new(id))))
+    in_turn("a new chunk", || sum(ids, |id| u64::from(x.bp_set_if_new(id).yes)), || sum(ids, |id| u64::from(rust.set_if_new(id))))
 }
 
 fn round(ids: &[i64], x: &mut Memory, table: &mut Table) {

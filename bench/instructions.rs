@@ -46,9 +46,9 @@ fn library(call: &str, asked: &Asked) -> u64 {
     asked.members.iter().for_each(|&id| assert_eq!(x.bp_set(id), DONE));
     assert!(!asked.ranked || x.bp_into_ranked() == DONE);
     match call {
-        "insert" | "row" => counted_loop(ids, |id| x.bp_set_if_new(id).value),
-        "get" | "get-row" => counted_loop(ids, |id| x.bp_get(id).value),
-        "any" => counted_loop(ids, |id| x.bp_any_in_range(id, id + 9).value),
+        "insert" | "row" => counted_loop(ids, |id| u64::from(x.bp_set_if_new(id).yes)),
+        "get" | "get-row" => counted_loop(ids, |id| u64::from(x.bp_get(id).yes)),
+        "any" => counted_loop(ids, |id| u64::from(x.bp_any_in_range(id, id + 9).yes)),
         "rank" => counted_loop(ids, |id| x.bp_rank(id).value),
         "rank-if-set" => counted_loop(ids, |id| x.bp_rank_if_set(id).value),
         _ => counted_loop(ids, |start| sum(&x.bp_iter_from(start).ids, |id| id as u64)),

@@ -19,8 +19,8 @@ pub fn run(scale: &Scale, table: &mut Table) {
         assert_eq!(x.bp_set_up(z), DONE);
         let mut rust = IdSet::new();
         // all at once: what a row costs depends on how many there are
-        let (library, other) = (|| sum(&rising, |id| x.bp_set_if_new(id).value), || sum(&rising, |id| u64::from(rust.set_if_new(id))));
+        let (library, other) = (|| sum(&rising, |id| u64::from(x.bp_set_if_new(id).yes)), || sum(&rising, |id| u64::from(rust.set_if_new(id))));
         table.both("insert rising into rows", rising.len(), library, other);
-        table.over("`get` random in rows", asked, |ids| sum(ids, |id| x.bp_get(id).value), |ids| sum(ids, |id| u64::from(rust.get(id))));
+        table.over("`get` random in rows", asked, |ids| sum(ids, |id| u64::from(x.bp_get(id).yes)), |ids| sum(ids, |id| u64::from(rust.get(id))));
     }
 }

@@ -31,7 +31,7 @@ impl Open for Memory {
     type Ranked = Memory;
 
     fn insert(&mut self, id: i64) -> bool {
-        self.bp_set_if_new(id).value == 1
+        self.bp_set_if_new(id).yes
     }
 
     fn check(&mut self) -> Option<bool> {
@@ -52,11 +52,11 @@ impl Ranked for Memory {
     fn plan(&mut self, slots: u64) -> Vec<Part> {
         let mut bounds = [0; ROOM];
         let made = Memory::plan(self, slots, &mut bounds);
-        assert_eq!(made.kind, 1, "refused {}", made.refusal);
+        assert_eq!(made.refusal, 0, "a plan is refused");
         let plan = Record { total: made.total, slots: made.slots, partitions: made.partitions };
         let part = |k| {
             let (ids, ranks) = (ids(plan, &bounds, k), ranks(plan, k));
-            (ids.low, (ids.kind == 1).then_some(ids.high), ranks.count)
+            (ids.low, ids.has_high.then_some(ids.high), ranks.count)
         };
         (0..plan.partitions).map(part).collect()
     }

@@ -8,7 +8,7 @@ use crate::{Scale, dense, rows, sum};
 /// A set on both sides, which may have chunks already, and gets every other id from one on.
 fn half(ids: &[i64], first: usize, x: &mut Memory, rust: &mut IdSet) {
     for &id in ids.iter().skip(first).step_by(2) {
-        assert_eq!(x.bp_set_if_new(id).value == 1, rust.set_if_new(id));
+        assert_eq!(x.bp_set_if_new(id).yes, rust.set_if_new(id));
     }
 }
 
@@ -22,8 +22,8 @@ fn union(name: &str, z: Sizes, ids: &[i64], rounds: u64, table: &mut Table, fres
             rust.merge_from(&rust_from);
             0
         };
-        table.both(name, 1, || x.bp_merge_from(&from).kind, merged);
-        assert_eq!(sum(ids, |id| x.bp_get(id).value), ids.len() as u64);
+        table.both(name, 1, || x.bp_merge_from(&from).refusal, merged);
+        assert_eq!(sum(ids, |id| u64::from(x.bp_get(id).yes)), ids.len() as u64);
         assert_eq!(x.bp_len().value, rust.len());
     }
 }

@@ -1,33 +1,45 @@
-//! The library through its C entries (crates/exports/include/brothpillow.h), on memory that this side lends.
+//! The library through its C entries (include/brothpillow.h), on memory that this side lends.
 
-/// Kind 0: done or none. 1: a value. 2: refused, with document 01's number.
+/// refusal is document 01's number or 0, here and below, and beside a number every other field is 0.
 #[repr(C)]
 #[derive(Clone, Copy, PartialEq, Eq, Debug)]
-pub struct Answer {
-    pub kind: u64,
+pub struct Done {
+    pub refusal: u64,
+}
+
+pub const DONE: Done = Done { refusal: 0 };
+
+#[repr(C)]
+#[derive(Clone, Copy, PartialEq, Eq, Debug)]
+pub struct Truth {
+    pub refusal: u64,
+    pub yes: bool,
+}
+
+#[repr(C)]
+#[derive(Clone, Copy, PartialEq, Eq, Debug)]
+pub struct Number {
+    pub refusal: u64,
     pub value: u64,
 }
 
-pub const DONE: Answer = Answer { kind: 0, value: 0 };
-pub const NONE: Answer = DONE;
-
-pub fn value(n: u64) -> Answer {
-    Answer { kind: 1, value: n }
-}
-
-pub fn refused(n: u64) -> Answer {
-    Answer { kind: 2, value: n }
+#[repr(C)]
+#[derive(Clone, Copy, PartialEq, Eq, Debug)]
+pub struct Optional {
+    pub refusal: u64,
+    pub has: bool,
+    pub value: u64,
 }
 
 /// What iteration from a start hands back.
 #[repr(C)]
 #[derive(Clone, Copy, PartialEq, Eq, Debug)]
 pub struct Listing {
+    pub refusal: u64,
     pub ids: [i64; 64],
     pub count: u64,
     pub end: bool,
     pub next: i64,
-    pub refusal: u64,
 }
 
 #[derive(Clone, Copy, PartialEq, Eq, Debug)]
@@ -103,23 +115,23 @@ macro_rules! entries {
 
 entries! {
     bp_check() -> bool;
-    bp_set(id: i64) -> Answer;
-    bp_set_if_new(id: i64) -> Answer;
-    bp_set_prepared(id: i64) -> Answer;
-    bp_pre_allocate(max: i64) -> Answer;
-    bp_get(id: i64) -> Answer;
-    bp_any_in_range(min: i64, max: i64) -> Answer;
-    bp_chunk_of(id: i64) -> Answer;
-    bp_len() -> Answer;
-    bp_is_empty() -> Answer;
-    bp_has_any() -> Answer;
-    bp_allocated_chunk_count() -> Answer;
+    bp_set(id: i64) -> Done;
+    bp_set_if_new(id: i64) -> Truth;
+    bp_set_prepared(id: i64) -> Truth;
+    bp_pre_allocate(max: i64) -> Done;
+    bp_get(id: i64) -> Truth;
+    bp_any_in_range(min: i64, max: i64) -> Truth;
+    bp_chunk_of(id: i64) -> Optional;
+    bp_len() -> Number;
+    bp_is_empty() -> Truth;
+    bp_has_any() -> Truth;
+    bp_allocated_chunk_count() -> Number;
     bp_iter_from(start: i64) -> Listing;
-    bp_into_ranked() -> Answer;
-    bp_into_open() -> Answer;
-    bp_rank(id: i64) -> Answer;
-    bp_rank_if_set(id: i64) -> Answer;
-    bp_total_count() -> Answer;
+    bp_into_ranked() -> Done;
+    bp_into_open() -> Done;
+    bp_rank(id: i64) -> Number;
+    bp_rank_if_set(id: i64) -> Optional;
+    bp_total_count() -> Number;
 }
 
 unsafe extern "C" {
@@ -127,19 +139,19 @@ unsafe extern "C" {
         s: u64, m: u64, d: u64, v: u64, r: u64, p: u64,
         pages: *mut u64, pages_n: usize, rows: *mut u32, rows_n: usize,
         blocks: *mut u32, blocks_n: usize, table: *mut u64, table_n: usize,
-    ) -> Answer;
+    ) -> Done;
     fn bp_merge_from(
         pages: *mut u64, pages_n: usize, rows: *mut u32, rows_n: usize, blocks: *mut u32, blocks_n: usize, table: *mut u64, table_n: usize,
         spages: *const u64, spages_n: usize, srows: *const u32, srows_n: usize, sblocks: *const u32, sblocks_n: usize, stable: *const u64, stable_n: usize,
-    ) -> Answer;
+    ) -> Done;
     fn bp_merge(
         pages: *mut u64, pages_n: usize, rows: *mut u32, rows_n: usize, blocks: *mut u32, blocks_n: usize, table: *mut u64, table_n: usize,
         spages: *mut u64, spages_n: usize, srows: *mut u32, srows_n: usize, sblocks: *mut u32, sblocks_n: usize, stable: *mut u64, stable_n: usize,
-    ) -> Answer;
+    ) -> Done;
     fn bp_mark_ends_by_range(
         lows: *const i64, lows_n: usize, highs: *const i64, highs_n: usize, marks: *mut u8, marks_n: usize,
         pages: *const u64, pages_n: usize, rows: *const u32, rows_n: usize, blocks: *const u32, blocks_n: usize, table: *const u64, table_n: usize,
-    ) -> Answer;
+    ) -> Done;
 }
 
 impl Memory {
@@ -168,7 +180,7 @@ impl Memory {
         end64(&self.pages[pages..]) && end32(&self.rows[rows..]) && end32(&self.blocks[blocks..]) && end64(&self.table[table..])
     }
 
-    pub fn bp_set_up(&mut self, z: Sizes) -> Answer {
+    pub fn bp_set_up(&mut self, z: Sizes) -> Done {
         let [pages, rows, blocks, table] = self.lent();
         unsafe {
             bp_set_up(
@@ -180,7 +192,7 @@ impl Memory {
     }
 
     /// Union: the other set's members come here.
-    pub fn bp_merge_from(&mut self, from: &Memory) -> Answer {
+    pub fn bp_merge_from(&mut self, from: &Memory) -> Done {
         let ([pages, rows, blocks, table], [spages, srows, sblocks, stable]) = (self.lent(), from.lent());
         unsafe {
             bp_merge_from(
@@ -190,7 +202,7 @@ impl Memory {
         }
     }
 
-    pub fn bp_merge(&mut self, from: &mut Memory) -> Answer {
+    pub fn bp_merge(&mut self, from: &mut Memory) -> Done {
         let ([pages, rows, blocks, table], [spages, srows, sblocks, stable]) = (self.lent(), from.lent());
         unsafe {
             bp_merge(
@@ -201,7 +213,7 @@ impl Memory {
     }
 
     /// Marks of a range list by range test: as many as the shortest of the three has.
-    pub fn bp_mark_ends_by_range(&self, lows: &[i64], highs: &[i64], marks: &mut [u8]) -> Answer {
+    pub fn bp_mark_ends_by_range(&self, lows: &[i64], highs: &[i64], marks: &mut [u8]) -> Done {
         let [pages, rows, blocks, table] = self.lent();
         unsafe {
             bp_mark_ends_by_range(

@@ -1,7 +1,7 @@
 //! The library linked through `exports`: each call is compared at once, memory after each refusal, each plan and each union, elements past the sizes at
 //! the end.
 use crate::call::{Call, Ranges, Record, Said, Sizes};
-use crate::library::{Answer, DONE, Listing, Memory};
+use crate::library::{DONE, Done, Listing, Memory, Number, Optional, Truth};
 use crate::lists;
 use crate::locations;
 use crate::planning;
@@ -26,36 +26,41 @@ pub struct Linked {
     sets: Vec<Set>,
 }
 
-fn ok(a: Answer) -> Said {
-    match a.kind {
+/// Beside a refusal every field of an answer is 0.
+fn alone(refusal: u64, rest_is_0: bool) -> Said {
+    assert!(rest_is_0, "a field beside a refusal is not 0");
+    Said::Refused(refusal)
+}
+
+fn ok(a: Done) -> Said {
+    match a.refusal {
         0 => Said::Ok,
-        _ => refused(a),
+        c => Said::Refused(c),
     }
 }
 
-fn refused(a: Answer) -> Said {
-    assert_eq!(a.kind, 2, "an answer of no known kind");
-    Said::Refused(a.value)
-}
-
-fn truth(a: Answer) -> Said {
-    match (a.kind, a.value) {
-        (1, n @ 0..=1) => Said::Truth(n == 1),
-        _ => refused(a),
+fn truth(a: Truth) -> Said {
+    match a.refusal {
+        0 => Said::Truth(a.yes),
+        c => alone(c, !a.yes),
     }
 }
 
-fn number(a: Answer) -> Said {
-    match a.kind {
-        1 => Said::Number(a.value),
-        _ => refused(a),
+fn number(a: Number) -> Said {
+    match a.refusal {
+        0 => Said::Number(a.value),
+        c => alone(c, a.value == 0),
     }
 }
 
-fn perhaps(a: Answer) -> Said {
-    match a.kind {
-        0 => Said::Nothing,
-        _ => number(a),
+fn perhaps(a: Optional) -> Said {
+    match a.refusal {
+        0 if a.has => Said::Number(a.value),
+        0 => {
+            assert_eq!(a.value, 0, "a value where there is none");
+            Said::Nothing
+        }
+        c => alone(c, !a.has && a.value == 0),
     }
 }
 
@@ -66,14 +71,13 @@ fn listed(r: Listing) -> Said {
     if r.refusal == 0 {
         return Said::Listed { ids: r.ids[..used].to_vec(), end: r.end, next: r.next };
     }
-    assert!(used == 0 && !r.end && r.next == 0, "a field beside a refusal is not 0");
-    Said::Refused(r.refusal)
+    alone(r.refusal, used == 0 && !r.end && r.next == 0)
 }
 
-fn marked(ranges: &Ranges, call: impl FnOnce(&[i64], &[i64], &mut [u8]) -> Answer) -> Said {
+fn marked(ranges: &Ranges, call: impl FnOnce(&[i64], &[i64], &mut [u8]) -> Done) -> Said {
     match lists::marked(ranges.ends(), ranges.more, call) {
-        Ok((a, marks)) if a.kind == 0 => Said::Marks(marks),
-        Ok((a, _)) => refused(a),
+        Ok((a, marks)) if a == DONE => Said::Marks(marks),
+        Ok((a, _)) => ok(a),
         Err(wrong) => panic!("{wrong}"),
     }
 }
@@ -115,20 +119,22 @@ impl Set {
     fn plan(&mut self, slots: u64, room: usize) -> Said {
         let before = self.bounds.clone();
         let a = self.memory.plan(slots, &mut self.bounds[..room]);
-        let written = if a.kind == 1 { a.partitions as usize - 1 } else { 0 };
+        let written = if a.refusal == 0 { a.partitions as usize - 1 } else { 0 };
         assert!(self.bounds[written..] == before[written..], "planning wrote past its boundaries");
-        match a.kind {
-            1 => Said::Planned(Record { total: a.total, slots: a.slots, partitions: a.partitions }, self.bounds[..written].to_vec()),
-            _ => refused(Answer { kind: a.kind, value: a.refusal }),
+        match a.refusal {
+            0 => Said::Planned(Record { total: a.total, slots: a.slots, partitions: a.partitions }, self.bounds[..written].to_vec()),
+            c => alone(c, (a.total, a.slots, a.partitions) == (0, 0, 0)),
         }
     }
 
     fn part(&mut self, p: Record, room: usize, k: u64) -> Said {
         let i = planning::ids(p, &self.bounds[..room], k);
         let r = planning::ranks(p, k);
-        assert!(i.kind <= 2 && (1..=2).contains(&r.kind), "an answer of no known kind");
-        let ids = if i.kind == 2 { Err(i.refusal) } else { Ok((i.low, (i.kind == 1).then_some(i.high))) };
-        let ranks = if r.kind == 2 { Err(r.refusal) } else { Ok((r.first, r.count)) };
+        assert!(i.refusal == 0 || (i.has_high, i.low) == (false, 0), "a field beside a refusal is not 0");
+        assert!(r.refusal == 0 || (r.first, r.count) == (0, 0), "a field beside a refusal is not 0");
+        assert!(i.has_high || i.high == 0, "a high end where there is none");
+        let ids = if i.refusal == 0 { Ok((i.low, i.has_high.then_some(i.high))) } else { Err(i.refusal) };
+        let ranks = if r.refusal == 0 { Ok((r.first, r.count)) } else { Err(r.refusal) };
         if let Ok((low, high)) = ids {
             intervals_agree(low, high);
         }

@@ -1,30 +1,29 @@
-//! The library's entries for planning and for pure numbers (crates/exports/include/brothpillow.h).
+//! The library's entries for planning and for pure numbers (include/brothpillow.h).
 use crate::call::Record;
-use crate::library::{Answer, Memory};
+use crate::library::{Done, Memory};
 
-/// Kind 1: made. 2: refused.
+/// Beside a refusal every other field is 0, here and below.
 #[repr(C)]
-pub struct PlanAnswer {
-    pub kind: u64,
+#[derive(Clone, Copy, PartialEq, Debug)]
+pub struct Planned {
     pub refusal: u64,
     pub total: u64,
     pub slots: u64,
     pub partitions: u64,
 }
 
-/// Kind 0: no high end. 1: a high end. 2: refused.
 #[repr(C)]
-pub struct IdsAnswer {
-    pub kind: u64,
+#[derive(Clone, Copy, PartialEq, Debug)]
+pub struct Interval {
     pub refusal: u64,
+    pub has_high: bool,
     pub low: i64,
     pub high: i64,
 }
 
-/// Kind 1: first rank and count. 2: refused.
 #[repr(C)]
-pub struct RanksAnswer {
-    pub kind: u64,
+#[derive(Clone, Copy, PartialEq, Debug)]
+pub struct RankedSpan {
     pub refusal: u64,
     pub first: u64,
     pub count: u64,
@@ -34,21 +33,21 @@ unsafe extern "C" {
     fn bp_plan(
         pages: *const u64, pages_n: usize, rows: *const u32, rows_n: usize, blocks: *const u32, blocks_n: usize, table: *const u64, table_n: usize,
         s: u64, bounds: *mut i64, bounds_n: usize,
-    ) -> PlanAnswer;
-    fn bp_ids(total: u64, slots: u64, partitions: u64, bounds: *const i64, bounds_n: usize, k: u64) -> IdsAnswer;
-    fn bp_ranks(total: u64, slots: u64, partitions: u64, k: u64) -> RanksAnswer;
+    ) -> Planned;
+    fn bp_ids(total: u64, slots: u64, partitions: u64, bounds: *const i64, bounds_n: usize, k: u64) -> Interval;
+    fn bp_ranks(total: u64, slots: u64, partitions: u64, k: u64) -> RankedSpan;
     fn bp_in_partition(id: i64, has_high: bool, low: i64, high: i64) -> bool;
     fn bp_range_meets(min: i64, max: i64, has_high: bool, low: i64, high: i64) -> bool;
     fn bp_mark_ends_by_partition(
         lows: *const i64, lows_n: usize, highs: *const i64, highs_n: usize, marks: *mut u8, marks_n: usize,
         total: u64, slots: u64, partitions: u64, bounds: *const i64, bounds_n: usize, k: u64,
-    ) -> Answer;
+    ) -> Done;
     fn bp_slots_for_budget(bytes: u64) -> u64;
     fn bp_file_bounded_max_id(claim: i64, length: u64, per_byte: u64) -> i64;
 }
 
 impl Memory {
-    pub fn plan(&self, slots: u64, bounds: &mut [i64]) -> PlanAnswer {
+    pub fn plan(&self, slots: u64, bounds: &mut [i64]) -> Planned {
         let [pages, rows, blocks, table] = self.lent();
         unsafe {
             bp_plan(
@@ -59,11 +58,11 @@ impl Memory {
     }
 }
 
-pub fn ids(p: Record, bounds: &[i64], k: u64) -> IdsAnswer {
+pub fn ids(p: Record, bounds: &[i64], k: u64) -> Interval {
     unsafe { bp_ids(p.total, p.slots, p.partitions, bounds.as_ptr(), bounds.len(), k) }
 }
 
-pub fn ranks(p: Record, k: u64) -> RanksAnswer {
+pub fn ranks(p: Record, k: u64) -> RankedSpan {
     unsafe { bp_ranks(p.total, p.slots, p.partitions, k) }
 }
 
@@ -76,7 +75,7 @@ pub fn range_meets(min: i64, max: i64, low: i64, high: Option<i64>) -> bool {
 }
 
 /// Marks of a range list by partition k: as many as the shortest of the three has.
-pub fn mark_ends_by_partition(lows: &[i64], highs: &[i64], marks: &mut [u8], p: Record, bounds: &[i64], k: u64) -> Answer {
+pub fn mark_ends_by_partition(lows: &[i64], highs: &[i64], marks: &mut [u8], p: Record, bounds: &[i64], k: u64) -> Done {
     unsafe {
         bp_mark_ends_by_partition(
             lows.as_ptr(), lows.len(), highs.as_ptr(), highs.len(), marks.as_mut_ptr(), marks.len(),

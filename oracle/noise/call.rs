@@ -1,5 +1,6 @@
 //! Every call as a value: how it is made, and which answers document 01 lets it give on any memory at all.
-use crate::library::{Answer, DONE, Listing, Memory, NONE, Sizes, refused, value};
+use crate::answer::{Answer, DONE, NONE, refused, value};
+use crate::library::{Listing, Memory, Sizes};
 
 #[derive(Clone, Copy, Debug)]
 pub enum Call {
@@ -98,26 +99,26 @@ impl Call {
     pub const ALONE: [Call; 8] = [Check, Len, IsEmpty, HasAny, Chunks, TotalCount, IntoRanked, IntoOpen];
 
     pub fn make(self, x: &mut Memory) -> Said {
-        let answer = match self {
-            SetUp(z) => x.bp_set_up(z),
+        let answer: Answer = match self {
+            SetUp(z) => x.bp_set_up(z).into(),
             Check => value(x.bp_check().into()),
-            Set(id) => x.bp_set(id),
-            SetIfNew(id) => x.bp_set_if_new(id),
-            SetPrepared(id) => x.bp_set_prepared(id),
-            PreAllocate(max) => x.bp_pre_allocate(max),
-            Get(id) => x.bp_get(id),
-            Any(min, max) => x.bp_any_in_range(min, max),
-            ChunkOf(id) => x.bp_chunk_of(id),
-            Len => x.bp_len(),
-            IsEmpty => x.bp_is_empty(),
-            HasAny => x.bp_has_any(),
-            Chunks => x.bp_allocated_chunk_count(),
+            Set(id) => x.bp_set(id).into(),
+            SetIfNew(id) => x.bp_set_if_new(id).into(),
+            SetPrepared(id) => x.bp_set_prepared(id).into(),
+            PreAllocate(max) => x.bp_pre_allocate(max).into(),
+            Get(id) => x.bp_get(id).into(),
+            Any(min, max) => x.bp_any_in_range(min, max).into(),
+            ChunkOf(id) => x.bp_chunk_of(id).into(),
+            Len => x.bp_len().into(),
+            IsEmpty => x.bp_is_empty().into(),
+            HasAny => x.bp_has_any().into(),
+            Chunks => x.bp_allocated_chunk_count().into(),
             Iter(start) => return x.bp_iter_from(start).into(),
-            IntoRanked => x.bp_into_ranked(),
-            IntoOpen => x.bp_into_open(),
-            Rank(id) => x.bp_rank(id),
-            RankIfSet(id) => x.bp_rank_if_set(id),
-            TotalCount => x.bp_total_count(),
+            IntoRanked => x.bp_into_ranked().into(),
+            IntoOpen => x.bp_into_open().into(),
+            Rank(id) => x.bp_rank(id).into(),
+            RankIfSet(id) => x.bp_rank_if_set(id).into(),
+            TotalCount => x.bp_total_count().into(),
         };
         answer.into()
     }

@@ -3,6 +3,7 @@
 //! are the plain set's; where it doesn't, the answer falls under a row of docs/EXCEPTIONS.md, and every row comes up. Unions are made of two such memories;
 //! marks of a range list are what the range test answers.
 //! Arguments: how many times the usual number of rounds, the seed, and for one round alone its sizes' place and its number.
+mod answer;
 mod bad;
 mod call;
 mod choose;
@@ -22,9 +23,10 @@ mod second;
 mod smallest;
 mod unions;
 
+use answer::{DONE, refused};
 use bad::Bad;
 use call::{Call, Record, Said};
-use library::{DONE, Memory, Sizes, refused};
+use library::{Memory, Sizes};
 use plain::Plain;
 use poke::Random;
 use rows::{NAMES, Row};
@@ -184,10 +186,10 @@ impl Run {
         let mut bounds = marks.clone();
         let a = work.plan(slots, &mut bounds[..room]);
         let record = Record { total: a.total, slots: a.slots, partitions: a.partitions };
-        let told = if a.kind == 1 { Ok(record) } else { Err(a.refusal) };
+        let told = if a.refusal == 0 { Ok(record) } else { Err(a.refusal) };
         let written = told.map_or(0, |r| r.partitions as usize - 1);
-        let known = matches!((a.kind, a.refusal), (1, 0)) || matches!((a.refusal, a.total, a.slots, a.partitions), (3 | 5 | 11, 0, 0, 0));
-        let fine = known && a.kind <= 2 && work == before && bounds[written..] == marks[written..];
+        let known = a.refusal == 0 || matches!((a.refusal, a.total, a.slots, a.partitions), (3 | 5 | 11, 0, 0, 0));
+        let fine = known && work == before && bounds[written..] == marks[written..];
         self.ensure(fine, format_args!("plan {slots} {room} answers {told:?}, or writes"), None, before);
         self.calls += 1;
         let fine = match judged {

@@ -1,7 +1,8 @@
 //! Range lists on memory that may be one that no call made: where the walk finds something wrong 3, and marks stay; else each mark is what the range test
 //! answers, which then is never refused.
+use crate::answer::{Answer, DONE, refused, value};
 use crate::call::Call;
-use crate::library::{DONE, Memory, Sizes, refused, value};
+use crate::library::{Memory, Sizes};
 use crate::lists::marked;
 use crate::poke::Random;
 use crate::rows::Row;
@@ -49,7 +50,7 @@ impl Run {
         let ends: Vec<(i64, i64)> = (0..g.below(4)).map(|_| choose::ends(g, before, z)).collect();
         let told = marked(&ends, more(g), |lows, highs, marks| work.bp_mark_ends_by_range(lows, highs, marks));
         let walks = judged.as_ref().map_or_else(|bad| bad.walked.is_some(), |_| true);
-        let fine = work == before && told.as_ref().is_ok_and(|(a, _)| *a == if walks { DONE } else { refused(3) });
+        let fine = work == before && told.as_ref().is_ok_and(|&(a, _)| Answer::from(a) == if walks { DONE } else { refused(3) });
         self.ensure(fine, format_args!("the range list {ends:?} is told {told:?}, or memory changed"), None, before);
         self.calls += 1;
         self.refusals[3] += u64::from(!walks);

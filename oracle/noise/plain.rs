@@ -1,7 +1,8 @@
 //! A set as document 01 speaks of it: chunks by id, their kind, slot and offsets, and the mode; each call's answer and what it leaves.
 //! Slots are part of it, since document 01 says which is taken: so a set fixes memory, but for the elements past the sizes.
+use crate::answer::{Answer, DONE, NONE, value};
 use crate::call::{Call, Record, Said, listed};
-use crate::library::{Answer, DONE, NONE, Sizes, value};
+use crate::library::Sizes;
 use crate::second::sizes_allowed;
 use std::collections::{BTreeMap, BTreeSet};
 

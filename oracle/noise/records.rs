@@ -1,6 +1,6 @@
 //! Plan records, which come from the caller: what `ids`, `ranks` and the range list by partition answer on any of them, by document 01.
+use crate::answer::{DONE, refused};
 use crate::call::Record;
-use crate::library::{DONE, refused};
 use crate::lists::marked;
 use crate::marks::more;
 use crate::planning::{ids, mark_ends_by_partition, ranks};
@@ -64,7 +64,7 @@ fn list(g: &mut Random, p: Record, bounds: &[i64], k: u64) -> Result<(), String>
     let ends: Vec<(i64, i64)> = (0..g.below(4)).map(|_| (end(g, bounds), end(g, bounds))).collect();
     let meets = |(low, high): (i64, Option<i64>)| ends.iter().map(|&(min, max)| max >= low && high.is_none_or(|h| min < h)).collect();
     let wanted = wanted_ids(p, bounds, k).map_or_else(|no| (refused(no), vec![]), |interval| (DONE, meets(interval)));
-    let told = marked(&ends, more(g), |lows, highs, marks| mark_ends_by_partition(lows, highs, marks, p, bounds, k));
+    let told = marked(&ends, more(g), |lows, highs, marks| mark_ends_by_partition(lows, highs, marks, p, bounds, k)).map(|(a, marks)| (a.into(), marks));
     if told.as_ref() == Ok(&wanted) { Ok(()) } else { Err(format!("the range list {ends:?} by partition {k} of {p:?} is told {told:?} and not {wanted:?}")) }
 }
 
@@ -76,11 +76,11 @@ pub fn partition(g: &mut Random) -> Result<u64, String> {
     list(g, p, &bounds, k)?;
     let (a, b) = (ids(p, &bounds, k), ranks(p, k));
     let wanted = match wanted_ids(p, &bounds, k) {
-        Ok((low, None)) => (0, 0, low, 0),
-        Ok((low, Some(high))) => (1, 0, low, high),
-        Err(no) => (2, no, 0, 0),
+        Ok((low, None)) => (0, false, low, 0),
+        Ok((low, Some(high))) => (0, true, low, high),
+        Err(no) => (no, false, 0, 0),
     };
-    let ranked = wanted_ranks(p, k).map_or_else(|no| (2, no, 0, 0), |(first, count)| (1, 0, first, count));
-    let same = (a.kind, a.refusal, a.low, a.high) == wanted && (b.kind, b.refusal, b.first, b.count) == ranked;
+    let ranked = wanted_ranks(p, k).map_or_else(|no| (no, 0, 0), |(first, count)| (0, first, count));
+    let same = (a.refusal, a.has_high, a.low, a.high) == wanted && (b.refusal, b.first, b.count) == ranked;
     if same { Ok(a.refusal) } else { Err(format!("partition {k} of {p:?} with {} boundaries is not {wanted:?}, {ranked:?}", bounds.len())) }
 }

@@ -1,8 +1,9 @@
 //! The rows of docs/EXCEPTIONS.md: which of them an answer on memory that the full check refuses falls under, by what is wrong with the part
 //! that the call looks at. Nothing wrong there: the answer is document 01's for that part, and is held against it.
+use crate::answer::{DONE, NONE, refused, value};
 use crate::bad::{Bad, Entry, Looked};
 use crate::call::{Call, Record, Said, listed};
-use crate::library::{DONE, Memory, NONE, refused, value};
+use crate::library::Memory;
 use crate::other;
 use crate::plain::Plain;
 use crate::second::Word;

@@ -1,8 +1,9 @@
 //! The smallest input of each row of docs/EXCEPTIONS.md, and inputs that once were answered and now are refused: what calls answer on them, one
 //! after the other.
+use crate::answer::{Answer, DONE, NONE, refused, value};
 use crate::bad::Bad;
 use crate::call::{Call, Call::*, Said, listed};
-use crate::library::{Answer, DONE, Memory, NONE, Sizes, refused, value};
+use crate::library::{Memory, Sizes};
 use crate::lists::marked;
 use crate::rows::{NAMES, Row};
 use crate::second;
@@ -38,11 +39,11 @@ use Ask::{GoesOn, List, Marks, Of, Plan};
 /// A row's name, or none where the first call is refused; s m D V R P; calls that make the set; pokes; calls and their answers.
 type Case = (&'static str, [u64; 6], &'static [Call], &'static [Poke], &'static [Ask]);
 
-const NO: Answer = Answer { kind: 1, value: 0 };
-const YES: Answer = Answer { kind: 1, value: 1 };
-const TWO: Answer = Answer { kind: 1, value: 2 };
-const THREE: Answer = Answer { kind: 1, value: 3 };
-const BAD: Answer = Answer { kind: 2, value: 3 };
+const NO: Answer = value(0);
+const YES: Answer = value(1);
+const TWO: Answer = value(2);
+const THREE: Answer = value(3);
+const BAD: Answer = refused(3);
 
 const TINY: [u64; 6] = [9, 4, 2, 1, 2, 1];
 
@@ -68,7 +69,7 @@ const CASES: [Case; 40] = [
         "order", [9, 1, 2, 1, 0, 2], &[PreAllocate(1023)],
         &[Table(7, 1), Table(16, 0), Table(21, 1 << 28), Pages(0, u64::MAX), Pages(8, u64::MAX)], &[GoesOn(576, 64), GoesOn(64, 576)],
     ),
-    ("empty entry", [9, 1, 0, 1, 1, 0], &[], &[Table(7, 1)], &[Of(Get(0), NO), Of(Any(0, 0), NO), List(0, &[]), Of(Chunks, NO), Of(SetIfNew(0), refusal(6))]),
+    ("empty entry", [9, 1, 0, 1, 1, 0], &[], &[Table(7, 1)], &[Of(Get(0), NO), Of(Any(0, 0), NO), List(0, &[]), Of(Chunks, NO), Of(SetIfNew(0), refused(6))]),
     ("empty entry", [9, 1, 0, 2, 1, 0], &[], &[Table(7, 1)], &[Of(SetIfNew(0), YES), Of(Get(0), YES), Of(Check, YES)]),
     (
         "no length", [9, 1, 1, 0, 1, 0], &[Set(0)], &[Table(16, 1)],
@@ -95,7 +96,7 @@ const CASES: [Case; 40] = [
     ("free page", [9, 1, 1, 0, 1, 1], &[Set(0)], &[Pages(0, 2)], &[Of(SetIfNew(5), YES), Of(Get(1), YES)]),
     ("free page", [9, 1, 1, 0, 0, 1], &[], &[Pages(0, 1)], &[Of(PreAllocate(0), DONE), Of(Get(0), YES)]),
     ("passed over", [9, 1, 1, 0, 2, 0], &[], &[Table(18, 1)], &[Of(SetIfNew(0), YES), Of(Check, NO)]),
-    ("", [9, 1, 1, 0, 1, 0], &[], &[Table(18, 1)], &[Of(SetIfNew(0), refusal(7))]),
+    ("", [9, 1, 1, 0, 1, 0], &[], &[Table(18, 1)], &[Of(SetIfNew(0), refused(7))]),
     ("prefix", TINY, &[Set(0), Set(5), IntoRanked], &[Table(17, 2)], &[Of(Rank(5), THREE), Plan(1, Some((2, &[0])))]),
     ("total", [9, 1, 0, 0, 0, 0], &[IntoRanked], &[Table(8, 1)], &[Of(TotalCount, YES), Plan(1, Some((1, &[])))]),
     ("blocks", [9, 1, 1, 0, 0, 1], &[PreAllocate(0), IntoRanked], &[Blocks(0, 1)], &[Of(Rank(0), YES)]),
@@ -106,10 +107,10 @@ const CASES: [Case; 40] = [
         &[Of(Get(-1), NO), Of(Any(-5, -1), NO), Of(Any(1, 0), NO), Of(Get(0), BAD), Of(Any(-5, 0), BAD), Of(Iter(-1), BAD), Marks(&[(1, 0)], None)],
     ),
     ("negative", [9, 1, 0, 0, 0, 0], &[], &[Table(8, 1)], &[Marks(&[(-5, -1), (1, 0)], Some(&[false, false]))]),
-    ("sizes", [9, 1, 0, 0, 0, 0], &[], &[Short(1)], &[Of(ChunkOf(5), NO), Of(Rank(5), refusal(5)), Of(Get(5), BAD), Of(Any(1, 0), BAD), Of(Iter(0), BAD)]),
+    ("sizes", [9, 1, 0, 0, 0, 0], &[], &[Short(1)], &[Of(ChunkOf(5), NO), Of(Rank(5), refused(5)), Of(Get(5), BAD), Of(Any(1, 0), BAD), Of(Iter(0), BAD)]),
     (
         "elsewhere", [9, 1, 1, 0, 0, 0], &[], &[Table(9, 1)],
-        &[Of(Get(0), NO), Of(Any(0, 0), NO), List(0, &[]), Marks(&[(0, 0)], None), Of(SetIfNew(0), refusal(7))],
+        &[Of(Get(0), NO), Of(Any(0, 0), NO), List(0, &[]), Marks(&[(0, 0)], None), Of(SetIfNew(0), refused(7))],
     ),
     ("elsewhere", ONE, &[Set(0)], &[Table(8, 1)], &[Marks(&[(0, 0), (1, 1)], Some(&[true, false]))]),
     // a hit, or a full record and a hit past it, before a part that is refused
@@ -147,7 +148,7 @@ const UNIONS: [Union; 11] = [
         [&[Of(Len, TWO), Of(SetPrepared(9), NO), Of(Check, YES)], &[List(2, &[9, 2])]],
     ),
     ("falling", [(ROW, &[], &[]), (ROW, &[Set(1), Set(2)], &[Rows(0, 9)])], (Join::Merge, DONE), [&[List(2, &[9, 2]), Of(Check, NO)], &[Of(Check, YES)]]),
-    ("", [(ROW, &[Set(2)], &[]), (ROW, &[Set(1), Set(2)], &[Rows(0, 9)])], (Join::MergeFrom, refusal(8)), [&[], &[]]),
+    ("", [(ROW, &[Set(2)], &[]), (ROW, &[Set(1), Set(2)], &[Rows(0, 9)])], (Join::MergeFrom, refused(8)), [&[], &[]]),
     ("far", [(PAGED, &[Set(6)], &[]), (ONE, &[Set(5)], &[Rows(0, 517)])], (Join::MergeFrom, DONE), [&[Of(Get(5), YES), Of(Check, YES)], &[]]),
     ("free row", [(ROW, &[], &[Rows(1, 7)]), (ROW, &[Set(0)], &[])], (Join::MergeFrom, DONE), [&[Of(Len, YES), Of(Check, NO)], &[]]),
     ("free page", [(PAGED, &[Set(0)], &[Pages(0, 2)]), (ONE, &[Set(5)], &[])], (Join::MergeFrom, DONE), [&[Of(Get(1), YES), Of(Check, YES)], &[]]),
@@ -159,10 +160,6 @@ const UNIONS: [Union; 11] = [
     ("", [(NOTHING, &[IntoRanked], &[]), (NOTHING, &[], &[Table(9, 1)])], (Join::Merge, BAD), [&[], &[]]),
     ("", [(NOTHING, &[], &[Table(9, 1)]), ([9, 2, 0, 0, 0, 0], &[], &[])], (Join::MergeFrom, BAD), [&[], &[]]),
 ];
-
-const fn refusal(no: u64) -> Answer {
-    Answer { kind: 2, value: no }
-}
 
 fn poke(x: &mut Memory, p: Poke) {
     match p {
@@ -190,7 +187,7 @@ fn ask(x: &mut Memory, ask: Ask, of: &str) -> Vec<(Call, Said)> {
             vec![(Iter(start), said)]
         }
         Marks(ends, wanted) => {
-            let told = marked(ends, [0; 3], |lows, highs, marks| x.bp_mark_ends_by_range(lows, highs, marks));
+            let told = marked(ends, [0; 3], |lows, highs, marks| x.bp_mark_ends_by_range(lows, highs, marks)).map(|(a, marks)| (a.into(), marks));
             let marks = wanted.unwrap_or_default();
             assert_eq!(told, Ok((wanted.map_or(refused(3), |_| DONE), marks.to_vec())), "smallest input of {of}: the range list {ends:?}");
             ends.iter().zip(marks).map(|(&(low, high), &mark)| (Any(low, high), value(mark.into()).into())).collect()
@@ -198,8 +195,8 @@ fn ask(x: &mut Memory, ask: Ask, of: &str) -> Vec<(Call, Said)> {
         Plan(slots, wanted) => {
             let mut bounds = [0; 4];
             let a = x.plan(slots, &mut bounds);
-            let told = (a.kind == 1).then(|| (a.total, &bounds[..a.partitions as usize - 1]));
-            assert!(told == wanted && (a.kind == 1 || a.refusal == 3), "smallest input of {of}: planning with {slots} answers {told:?}");
+            let told = (a.refusal == 0).then(|| (a.total, &bounds[..a.partitions as usize - 1]));
+            assert!(told == wanted && matches!(a.refusal, 0 | 3), "smallest input of {of}: planning with {slots} answers {told:?}");
             vec![]
         }
     }

@@ -1,6 +1,7 @@
 //! Union of two memories, either of which may be one that no call made: what it answers, both memories after it, and its row of docs/EXCEPTIONS.md.
+use crate::answer::{Answer, DONE, refused};
 use crate::bad::{Entry, page};
-use crate::library::{Answer, DONE, Memory, refused};
+use crate::library::Memory;
 use crate::plain::Plain;
 use crate::poke::Random;
 use crate::rows::Row;
@@ -17,8 +18,8 @@ pub enum Join {
 impl Join {
     pub fn make(self, x: &mut Memory, y: &mut Memory) -> Answer {
         match self {
-            Join::MergeFrom => x.bp_merge_from(y),
-            Join::Merge => x.bp_merge(y),
+            Join::MergeFrom => x.bp_merge_from(y).into(),
+            Join::Merge => x.bp_merge(y).into(),
         }
     }
 }

@@ -1,8 +1,9 @@
--- Answers as C gets them: a kind and values. Kind 0 is done or none, 1 a value, 2 a refusal with document 01's number.
+-- Answers as C gets them: a field for the refusal, document 01's number or 0, and fields for the rest, all 0 beside a number.
 use Prim.Native.Nat.{ℕ}
 use mathlib.Core.Path.{_≡_}
 use mathlib.Core.Bool.{Bool, true, false, cond}
 use lib.IntN.{ℤ, pos}
+use Rattle.document.specs.Refusals.{Numbered}
 use Rattle.document.specs.declared.answer.Outcome.{Outcome}
 use Rattle.document.specs.declared.answer.Outcome.the-variants as outcome
 use Rattle.document.specs.declared.answer.Truth.{Truth}
@@ -20,62 +21,82 @@ use Rattle.document.specs.declared.plan.Spanned.{Spanned}
 use Rattle.document.specs.declared.plan.Spanned.the-variants as spanned
 use Rattle.document.specs.declared.plan.Ranks.{Ranks}
 use Rattle.document.specs.declared.plan.Ranks.the-variants as ranks
-use Rattle.codes.specs.declared.answer.Answer.{Answer}
+use Rattle.codes.specs.declared.answer.DoneAnswer.{DoneAnswer}
+use Rattle.codes.specs.declared.answer.TruthAnswer.{TruthAnswer}
+use Rattle.codes.specs.declared.answer.NumberAnswer.{NumberAnswer}
+use Rattle.codes.specs.declared.answer.OptionalAnswer.{OptionalAnswer}
 use Rattle.codes.specs.declared.cut.PlanAnswer.{PlanAnswer}
-use Rattle.codes.specs.declared.cut.IdsAnswer.{IdsAnswer}
+use Rattle.codes.specs.declared.cut.IntervalAnswer.{IntervalAnswer}
 use Rattle.codes.specs.declared.cut.RanksAnswer.{RanksAnswer}
 
-abbrev pub code : ℕ → ℕ → Answer
-code k v = record { kind = k; value = v }
+abbrev pub outcomeCode : Outcome → DoneAnswer
+outcomeCode outcome.Done = record { refusal = 0 }
+outcomeCode (outcome.Refused n) = record { refusal = n }
 
-abbrev pub oneIf : Bool → ℕ
-oneIf false = 0
-oneIf true = 1
+abbrev pub truthCode : Truth → TruthAnswer
+truthCode (truth.Is b) = record { refusal = 0; yes = b }
+truthCode (truth.Refused n) = record { refusal = n; yes = false }
 
-abbrev pub outcomeCode : Outcome → Answer
-outcomeCode outcome.Done = code 0 0
-outcomeCode (outcome.Refused n) = code 2 n
+abbrev pub amountCode : Amount → NumberAnswer
+amountCode (amount.Of n) = record { refusal = 0; value = n }
+amountCode (amount.Refused n) = record { refusal = n; value = 0 }
 
-abbrev pub truthCode : Truth → Answer
-truthCode (truth.Is b) = code 1 (oneIf b)
-truthCode (truth.Refused n) = code 2 n
+abbrev pub perhapsCode : Perhaps → OptionalAnswer
+perhapsCode (perhaps.Of n) = record { refusal = 0; has = true; value = n }
+perhapsCode perhaps.Nothing = record { refusal = 0; has = false; value = 0 }
+perhapsCode (perhaps.Refused n) = record { refusal = n; has = false; value = 0 }
 
-abbrev pub amountCode : Amount → Answer
-amountCode (amount.Of n) = code 1 n
-amountCode (amount.Refused n) = code 2 n
-
-abbrev pub perhapsCode : Perhaps → Answer
-perhapsCode (perhaps.Of n) = code 1 n
-perhapsCode perhaps.Nothing = code 0 0
-perhapsCode (perhaps.Refused n) = code 2 n
-
--- ---- a plan's answers, with a place for the refusal number; what isn't said is 0
-
-abbrev pub planCode : ℕ → ℕ → ℕ → ℕ → ℕ → PlanAnswer
-planCode k c t slots n = record { kind = k; refusal = c; total = t; slots = slots; partitions = n }
+-- ---- a plan's answers
 
 abbrev pub planningCode : Planning → PlanAnswer
-planningCode (planning.Made p) = planCode 1 0 (p .total) (p .slots) (p .partitions)
-planningCode (planning.Refused c) = planCode 2 c 0 0 0
+planningCode (planning.Made p) = record { refusal = 0; total = p .total; slots = p .slots; partitions = p .partitions }
+planningCode (planning.Refused n) = record { refusal = n; total = 0; slots = 0; partitions = 0 }
 
-abbrev pub idsCode : ℕ → ℕ → ℤ → ℤ → IdsAnswer
-idsCode k c lo hi = record { kind = k; refusal = c; low = lo; high = hi }
+abbrev pub intervalCode : ℕ → Bool → ℤ → ℤ → IntervalAnswer
+intervalCode n hasHigh lo hi = record { refusal = n; «has_high» = hasHigh; low = lo; high = hi }
 
--- kind 0: no high end
-abbrev pub spanCode : Span → IdsAnswer
-spanCode (span.Between lo hi) = idsCode 1 0 lo hi
-spanCode (span.From lo) = idsCode 0 0 lo (pos 0)
+abbrev pub spanCode : Span → IntervalAnswer
+spanCode (span.Between lo hi) = intervalCode 0 true lo hi
+spanCode (span.From lo) = intervalCode 0 false lo (pos 0)
 
-abbrev pub spannedCode : Spanned → IdsAnswer
+abbrev pub spannedCode : Spanned → IntervalAnswer
 spannedCode (spanned.Of i) = spanCode i
-spannedCode (spanned.Refused c) = idsCode 2 c (pos 0) (pos 0)
-
-abbrev pub rankCode : ℕ → ℕ → ℕ → ℕ → RanksAnswer
-rankCode k c first n = record { kind = k; refusal = c; first = first; count = n }
+spannedCode (spanned.Refused n) = intervalCode n false (pos 0) (pos 0)
 
 abbrev pub ranksCode : Ranks → RanksAnswer
-ranksCode (ranks.Of first n) = rankCode 1 0 first n
-ranksCode (ranks.Refused c) = rankCode 2 c 0 0
+ranksCode (ranks.Of first n) = record { refusal = 0; first = first; count = n }
+ranksCode (ranks.Refused n) = record { refusal = n; first = 0; count = 0 }
+
+-- ---- answers that a code can be read back to: a refusal has a number of document 01's table
+
+abbrev pub OutcomeNumbered : Outcome → Type 0
+OutcomeNumbered outcome.Done = Unit
+OutcomeNumbered (outcome.Refused n) = Numbered n
+
+abbrev pub TruthNumbered : Truth → Type 0
+TruthNumbered (truth.Is b) = Unit
+TruthNumbered (truth.Refused n) = Numbered n
+
+abbrev pub AmountNumbered : Amount → Type 0
+AmountNumbered (amount.Of n) = Unit
+AmountNumbered (amount.Refused n) = Numbered n
+
+abbrev pub PerhapsNumbered : Perhaps → Type 0
+PerhapsNumbered (perhaps.Of n) = Unit
+PerhapsNumbered perhaps.Nothing = Unit
+PerhapsNumbered (perhaps.Refused n) = Numbered n
+
+abbrev pub PlanningNumbered : Planning → Type 0
+PlanningNumbered (planning.Made p) = Unit
+PlanningNumbered (planning.Refused n) = Numbered n
+
+abbrev pub SpannedNumbered : Spanned → Type 0
+SpannedNumbered (spanned.Of i) = Unit
+SpannedNumbered (spanned.Refused n) = Numbered n
+
+abbrev pub RanksNumbered : Ranks → Type 0
+RanksNumbered (ranks.Of first n) = Unit
+RanksNumbered (ranks.Refused n) = Numbered n
 
 -- ---- a plan and an interval, as C gives them
 

@@ -1,4 +1,5 @@
 // An answer for C: one definition for each kind of answer gives document 01's number and values, case by case.
+// refusal is document 01's number, or 0; beside a number every other field is 0, here and in cut.rt.
 ghost use mathlib.Core.Path.{_≡_};
 ghost use Rattle.codes.specs.Codes.{outcomeCode, truthCode, amountCode, perhapsCode};
 use document::answer::Amount;
@@ -6,53 +7,92 @@ use document::answer::Outcome;
 use document::answer::Perhaps;
 use document::answer::Truth;
 
-// kind 0: done, or none. 1: a value (no is 0, yes is 1). 2: refused, and the value is document 01's number.
+// Done, where refusal is 0.
 #[repr(C)]
-pub struct Answer {
-    pub kind: u64,
+pub struct DoneAnswer {
+    pub refusal: u64,
+}
+
+// Yes or no.
+#[repr(C)]
+pub struct TruthAnswer {
+    pub refusal: u64,
+    pub yes: bool,
+}
+
+// A number.
+#[repr(C)]
+pub struct NumberAnswer {
+    pub refusal: u64,
+    pub value: u64,
+}
+
+// A number where there is one: else value is 0.
+#[repr(C)]
+pub struct OptionalAnswer {
+    pub refusal: u64,
+    pub has: bool,
     pub value: u64,
 }
 
 // A call that only does something.
-pub fn of_outcome(a: Outcome) -> Answer
+pub fn of_outcome(a: Outcome) -> DoneAnswer
     ensures { λ r. ⌜ r ≡ outcomeCode a ⌝ }
 {
     match a {
-        Outcome::Done => Answer { kind: 0, value: 0 },
-        Outcome::Refused(n) => Answer { kind: 2, value: n },
+        Outcome::Done => DoneAnswer { refusal: 0 },
+        Outcome::Refused(n) => DoneAnswer { refusal: n },
     }
 }
 
 // Yes or no.
-pub fn of_truth(a: Truth) -> Answer
+pub fn of_truth(a: Truth) -> TruthAnswer
     ensures { λ r. ⌜ r ≡ truthCode a ⌝ }
 {
     match a {
-        Truth::Is(b) => {
-            let value = b as u64;
-            Answer { kind: 1, value }
-        }
-        Truth::Refused(n) => Answer { kind: 2, value: n },
+        Truth::Is(b) => TruthAnswer { refusal: 0, yes: b },
+        Truth::Refused(n) => TruthAnswer {
+            refusal: n,
+            yes: false,
+        },
     }
 }
 
 // A number.
-pub fn of_amount(a: Amount) -> Answer
+pub fn of_amount(a: Amount) -> NumberAnswer
     ensures { λ r. ⌜ r ≡ amountCode a ⌝ }
 {
     match a {
-        Amount::Of(n) => Answer { kind: 1, value: n },
-        Amount::Refused(n) => Answer { kind: 2, value: n },
+        Amount::Of(n) => NumberAnswer {
+            refusal: 0,
+            value: n,
+        },
+        Amount::Refused(n) => NumberAnswer {
+            refusal: n,
+            value: 0,
+        },
     }
 }
 
 // A number or none.
-pub fn of_perhaps(a: Perhaps) -> Answer
+pub fn of_perhaps(a: Perhaps) -> OptionalAnswer
     ensures { λ r. ⌜ r ≡ perhapsCode a ⌝ }
 {
     match a {
-        Perhaps::Of(n) => Answer { kind: 1, value: n },
-        Perhaps::Nothing => Answer { kind: 0, value: 0 },
-        Perhaps::Refused(n) => Answer { kind: 2, value: n },
+        Perhaps::Of(n) => OptionalAnswer {
+            refusal: 0,
+            has: true,
+            value: n,
+        },
+        Perhaps::Nothing => OptionalAnswer {
+            refusal: 0,
+            has: false,
+            value: 0,
+        },
+        Perhaps::Refused(n) => OptionalAnswer {
+            refusal: n,
+            has: false,
+            value: 0,
+        },
     }
 }

@@ -6,29 +6,27 @@ use document::plan::Ranks;
 use document::plan::Span;
 use document::plan::Spanned;
 
-// kind 1: made. 2: refused, and refusal is document 01's number. Where one isn't said it is 0, here and below.
+// The plan that was made.
 #[repr(C)]
 pub struct PlanAnswer {
-    pub kind: u64,
     pub refusal: u64,
     pub total: u64,
     pub slots: u64,
     pub partitions: u64,
 }
 
-// kind 0: from low on, no high end. 1: from low up to high, excluded. 2: refused.
+// From low up to high, excluded, where there is a high end: else from low on, and high is 0.
 #[repr(C)]
-pub struct IdsAnswer {
-    pub kind: u64,
+pub struct IntervalAnswer {
     pub refusal: u64,
+    pub has_high: bool,
     pub low: i64,
     pub high: i64,
 }
 
-// kind 1: first rank and count. 2: refused.
+// First rank and count.
 #[repr(C)]
 pub struct RanksAnswer {
-    pub kind: u64,
     pub refusal: u64,
     pub first: u64,
     pub count: u64,
@@ -40,14 +38,12 @@ pub fn of_planning(a: Planning) -> PlanAnswer
 {
     match a {
         Planning::Made(p) => PlanAnswer {
-            kind: 1,
             refusal: 0,
             total: p.total,
             slots: p.slots,
             partitions: p.partitions,
         },
         Planning::Refused(n) => PlanAnswer {
-            kind: 2,
             refusal: n,
             total: 0,
             slots: 0,
@@ -57,19 +53,19 @@ pub fn of_planning(a: Planning) -> PlanAnswer
 }
 
 // An interval.
-fn of_span(i: Span) -> IdsAnswer
+fn of_span(i: Span) -> IntervalAnswer
     ensures { λ r. ⌜ r ≡ spanCode i ⌝ }
 {
     match i {
-        Span::Between(low, high) => IdsAnswer {
-            kind: 1,
+        Span::Between(low, high) => IntervalAnswer {
             refusal: 0,
+            has_high: true,
             low,
             high,
         },
-        Span::From(low) => IdsAnswer {
-            kind: 0,
+        Span::From(low) => IntervalAnswer {
             refusal: 0,
+            has_high: false,
             low,
             high: 0,
         },
@@ -77,14 +73,14 @@ fn of_span(i: Span) -> IdsAnswer
 }
 
 // A partition's interval.
-pub fn of_spanned(a: Spanned) -> IdsAnswer
+pub fn of_spanned(a: Spanned) -> IntervalAnswer
     ensures { λ r. ⌜ r ≡ spannedCode a ⌝ }
 {
     match a {
         Spanned::Of(i) => of_span(i),
-        Spanned::Refused(n) => IdsAnswer {
-            kind: 2,
+        Spanned::Refused(n) => IntervalAnswer {
             refusal: n,
+            has_high: false,
             low: 0,
             high: 0,
         },
@@ -97,13 +93,11 @@ pub fn of_ranks(a: Ranks) -> RanksAnswer
 {
     match a {
         Ranks::Of(first, count) => RanksAnswer {
-            kind: 1,
             refusal: 0,
             first,
             count,
         },
         Ranks::Refused(n) => RanksAnswer {
-            kind: 2,
             refusal: n,
             first: 0,
             count: 0,

@@ -1,5 +1,9 @@
 -- The refusal numbers, each with its sentence.
-use Prim.Native.Nat.{ℕ}
+use Prim.Native.Nat.{ℕ, _≤_, _<_}
+
+-- a number of the table: 0 is none
+abbrev pub Numbered : ℕ → Type 0
+Numbered n = (0 < n) × (n ≤ 12)
 
 -- set-up: a number outside the table of sizes
 abbrev pub outside-sizes : ℕ

@@ -29,9 +29,9 @@ pub enum Perhaps {
 // A refusal has a field of its own, 0 where there is none, and every other field is 0 beside one.
 #[repr(C)]
 pub struct Listing {
+    pub refusal: u64,
     pub ids: [i64; 64],
     pub count: u64,
     pub end: bool,
     pub next: i64,
-    pub refusal: u64,
 }

@@ -7,7 +7,8 @@ ghost use Rattle.document.specs.Calls.{insert, put, prepared, prepare, rank-up,
 ghost use Rattle.contracts.specs.Does.{Does, SetsUp};
 ghost use Rattle.codes.specs.Codes.{Coded, outcomeCode, truthCode};
 use codes::answer;
-use codes::answer::Answer;
+use codes::answer::DoneAnswer;
+use codes::answer::TruthAnswer;
 use idset::setup;
 use inserts::insert;
 use ranked::form;
@@ -25,7 +26,7 @@ pub extern "C" fn bp_set_up(
     rows: &mut [u32],
     blocks: &mut [u32],
     table: &mut [u64],
-) -> Answer
+) -> DoneAnswer
     ensures { λ a. ⌜ (let x = memOf (pages .entry) (rows .entry) (blocks .entry) (table .entry) in
         let y = memOf (pages .exit) (rows .exit) (blocks .exit) (table .exit) in
         Coded outcomeCode (λ (o : Outcome). SetsUp (sizesOf s m d v r p) x o y) a) ⌝ }
@@ -41,7 +42,7 @@ pub extern "C" fn bp_set(
     blocks: &mut [u32],
     table: &mut [u64],
     id: i64,
-) -> Answer
+) -> DoneAnswer
     ensures { λ r. ⌜ (let x = memOf (pages .entry) (rows .entry) (blocks .entry) (table .entry) in
         let y = memOf (pages .exit) (rows .exit) (blocks .exit) (table .exit) in
         Coded outcomeCode (λ (a : Outcome). Does x (put id) (that a) y) r) ⌝ }
@@ -57,7 +58,7 @@ pub extern "C" fn bp_set_if_new(
     blocks: &mut [u32],
     table: &mut [u64],
     id: i64,
-) -> Answer
+) -> TruthAnswer
     ensures { λ r. ⌜ (let x = memOf (pages .entry) (rows .entry) (blocks .entry) (table .entry) in
         let y = memOf (pages .exit) (rows .exit) (blocks .exit) (table .exit) in
         Coded truthCode (λ (a : Truth). Does x (insert id) (whether a) y) r) ⌝ }
@@ -73,7 +74,7 @@ pub extern "C" fn bp_set_prepared(
     blocks: &mut [u32],
     table: &mut [u64],
     id: i64,
-) -> Answer
+) -> TruthAnswer
     ensures { λ r. ⌜ (let x = memOf (pages .entry) (rows .entry) (blocks .entry) (table .entry) in
         let y = memOf (pages .exit) (rows .exit) (blocks .exit) (table .exit) in
         Coded truthCode (λ (a : Truth). Does x (prepared id) (whether a) y) r) ⌝ }
@@ -89,7 +90,7 @@ pub extern "C" fn bp_pre_allocate(
     blocks: &mut [u32],
     table: &mut [u64],
     max: i64,
-) -> Answer
+) -> DoneAnswer
     ensures { λ r. ⌜ (let x = memOf (pages .entry) (rows .entry) (blocks .entry) (table .entry) in
         let y = memOf (pages .exit) (rows .exit) (blocks .exit) (table .exit) in
         Coded outcomeCode (λ (a : Outcome). Does x (prepare max) (that a) y) r) ⌝ }
@@ -104,7 +105,7 @@ pub extern "C" fn bp_into_ranked(
     rows: &[u32],
     blocks: &mut [u32],
     table: &mut [u64],
-) -> Answer
+) -> DoneAnswer
     ensures { λ r. ⌜ (let x = memOf (pages .entry) (rows .entry) (blocks .entry) (table .entry) in
         let y = memOf (pages .entry) (rows .entry) (blocks .exit) (table .exit) in
         Coded outcomeCode (λ (a : Outcome). Does x rank-up (that a) y) r) ⌝ }
@@ -119,7 +120,7 @@ pub extern "C" fn bp_into_open(
     rows: &[u32],
     blocks: &mut [u32],
     table: &mut [u64],
-) -> Answer
+) -> DoneAnswer
     ensures { λ r. ⌜ (let x = memOf (pages .entry) (rows .entry) (blocks .entry) (table .entry) in
         let y = memOf (pages .entry) (rows .entry) (blocks .exit) (table .exit) in
         Coded outcomeCode (λ (a : Outcome). Does x leave (that a) y) r) ⌝ }

@@ -6,7 +6,7 @@ ghost use Rattle.document.specs.declared.plan.Planning.{Planning};
 ghost use Rattle.cuts.specs.Promise.{Plans};
 ghost use Rattle.codes.specs.Codes.{Coded, planningCode, spannedCode, ranksCode, planIn, spanIn};
 use codes::cut;
-use codes::cut::IdsAnswer;
+use codes::cut::IntervalAnswer;
 use codes::cut::PlanAnswer;
 use codes::cut::RanksAnswer;
 use cuts::planning;
@@ -49,7 +49,7 @@ pub extern "C" fn bp_ids(
     partitions: u64,
     bounds: &[i64],
     k: u64,
-) -> IdsAnswer
+) -> IntervalAnswer
     ensures { λ r. ⌜ r ≡ spannedCode (idsAnswer (planIn total slots partitions) (now (bounds .entry)) k) ⌝ }
 {
     cut::of_spanned(interval::ids(plan_of(total, slots, partitions), bounds, k))

@@ -5,7 +5,7 @@ ghost use Rattle.document.specs.declared.answer.Outcome.{Outcome};
 ghost use Rattle.range_list.specs.Marks.{EndsByRange, EndsByPartition};
 ghost use Rattle.codes.specs.Codes.{Coded, outcomeCode, planIn};
 use codes::answer;
-use codes::answer::Answer;
+use codes::answer::DoneAnswer;
 use document::plan::Plan;
 use range_list::ends;
 
@@ -19,7 +19,7 @@ pub extern "C" fn bp_mark_ends_by_range(
     rows: &[u32],
     blocks: &[u32],
     table: &[u64],
-) -> Answer
+) -> DoneAnswer
     ensures { λ r. ⌜ (let x = memOf (pages .entry) (rows .entry) (blocks .entry) (table .entry) in
         Coded outcomeCode (λ (a : Outcome). EndsByRange x (now (lows .entry)) (now (highs .entry)) (now (marks .entry)) a (now (marks .exit))) r) ⌝ }
 {
@@ -37,7 +37,7 @@ pub extern "C" fn bp_mark_ends_by_partition(
     partitions: u64,
     bounds: &[i64],
     k: u64,
-) -> Answer
+) -> DoneAnswer
     ensures { λ r. ⌜ (let i = idsAnswer (planIn total slots partitions) (now (bounds .entry)) k in
         Coded outcomeCode (λ (a : Outcome). EndsByPartition i (now (lows .entry)) (now (highs .entry)) (now (marks .entry)) a (now (marks .exit))) r) ⌝ }
 {

@@ -9,7 +9,9 @@ ghost use Rattle.document.specs.Calls.{whether, many, maybe, listed};
 ghost use Rattle.contracts.specs.Does.{Answers};
 ghost use Rattle.codes.specs.Codes.{Coded, truthCode, amountCode, perhapsCode};
 use codes::answer;
-use codes::answer::Answer;
+use codes::answer::NumberAnswer;
+use codes::answer::OptionalAnswer;
+use codes::answer::TruthAnswer;
 use counts::count;
 use document::answer::Listing;
 use idset::read;
@@ -33,7 +35,7 @@ pub extern "C" fn bp_get(
     blocks: &[u32],
     table: &[u64],
     id: i64,
-) -> Answer
+) -> TruthAnswer
     ensures { λ r. ⌜ (let x = memOf (pages .entry) (rows .entry) (blocks .entry) (table .entry) in
         Coded truthCode (λ (a : Truth). Answers x (get id) (whether a)) r) ⌝ }
 {
@@ -49,7 +51,7 @@ pub extern "C" fn bp_any_in_range(
     table: &[u64],
     min: i64,
     max: i64,
-) -> Answer
+) -> TruthAnswer
     ensures { λ r. ⌜ (let x = memOf (pages .entry) (rows .entry) (blocks .entry) (table .entry) in
         Coded truthCode (λ (a : Truth). Answers x (any-in-range min max) (whether a)) r) ⌝ }
 {
@@ -64,7 +66,7 @@ pub extern "C" fn bp_chunk_of(
     blocks: &[u32],
     table: &[u64],
     id: i64,
-) -> Answer
+) -> OptionalAnswer
     ensures { λ r. ⌜ (let x = memOf (pages .entry) (rows .entry) (blocks .entry) (table .entry) in
         Coded perhapsCode (λ (a : Perhaps). Answers x (chunk-of id) (maybe a)) r) ⌝ }
 {
@@ -73,7 +75,7 @@ pub extern "C" fn bp_chunk_of(
 
 // The members.
 #[no_mangle]
-pub extern "C" fn bp_len(pages: &[u64], rows: &[u32], blocks: &[u32], table: &[u64]) -> Answer
+pub extern "C" fn bp_len(pages: &[u64], rows: &[u32], blocks: &[u32], table: &[u64]) -> NumberAnswer
     ensures { λ r. ⌜ (let x = memOf (pages .entry) (rows .entry) (blocks .entry) (table .entry) in
         Coded amountCode (λ (a : Amount). Answers x len (many a)) r) ⌝ }
 {
@@ -82,7 +84,12 @@ pub extern "C" fn bp_len(pages: &[u64], rows: &[u32], blocks: &[u32], table: &[u
 
 // Whether there is no member.
 #[no_mangle]
-pub extern "C" fn bp_is_empty(pages: &[u64], rows: &[u32], blocks: &[u32], table: &[u64]) -> Answer
+pub extern "C" fn bp_is_empty(
+    pages: &[u64],
+    rows: &[u32],
+    blocks: &[u32],
+    table: &[u64],
+) -> TruthAnswer
     ensures { λ r. ⌜ (let x = memOf (pages .entry) (rows .entry) (blocks .entry) (table .entry) in
         Coded truthCode (λ (a : Truth). Answers x is-empty (whether a)) r) ⌝ }
 {
@@ -91,7 +98,12 @@ pub extern "C" fn bp_is_empty(pages: &[u64], rows: &[u32], blocks: &[u32], table
 
 // Whether there is a chunk, be it empty.
 #[no_mangle]
-pub extern "C" fn bp_has_any(pages: &[u64], rows: &[u32], blocks: &[u32], table: &[u64]) -> Answer
+pub extern "C" fn bp_has_any(
+    pages: &[u64],
+    rows: &[u32],
+    blocks: &[u32],
+    table: &[u64],
+) -> TruthAnswer
     ensures { λ r. ⌜ (let x = memOf (pages .entry) (rows .entry) (blocks .entry) (table .entry) in
         Coded truthCode (λ (a : Truth). Answers x has-any (whether a)) r) ⌝ }
 {
@@ -105,7 +117,7 @@ pub extern "C" fn bp_allocated_chunk_count(
     rows: &[u32],
     blocks: &[u32],
     table: &[u64],
-) -> Answer
+) -> NumberAnswer
     ensures { λ r. ⌜ (let x = memOf (pages .entry) (rows .entry) (blocks .entry) (table .entry) in
         Coded amountCode (λ (a : Amount). Answers x chunk-count (many a)) r) ⌝ }
 {
@@ -134,7 +146,7 @@ pub extern "C" fn bp_rank(
     blocks: &[u32],
     table: &[u64],
     id: i64,
-) -> Answer
+) -> NumberAnswer
     ensures { λ r. ⌜ (let x = memOf (pages .entry) (rows .entry) (blocks .entry) (table .entry) in
         Coded amountCode (λ (a : Amount). Answers x (rank-of id) (many a)) r) ⌝ }
 {
@@ -149,7 +161,7 @@ pub extern "C" fn bp_rank_if_set(
     blocks: &[u32],
     table: &[u64],
     id: i64,
-) -> Answer
+) -> OptionalAnswer
     ensures { λ r. ⌜ (let x = memOf (pages .entry) (rows .entry) (blocks .entry) (table .entry) in
         Coded perhapsCode (λ (a : Perhaps). Answers x (rank-if id) (maybe a)) r) ⌝ }
 {
@@ -163,7 +175,7 @@ pub extern "C" fn bp_total_count(
     rows: &[u32],
     blocks: &[u32],
     table: &[u64],
-) -> Answer
+) -> NumberAnswer
     ensures { λ r. ⌜ (let x = memOf (pages .entry) (rows .entry) (blocks .entry) (table .entry) in
         Coded amountCode (λ (a : Amount). Answers x total-count (many a)) r) ⌝ }
 {

@@ -5,7 +5,7 @@ ghost use Rattle.document.specs.declared.answer.Outcome.{Outcome};
 ghost use Rattle.contracts.specs.Does.{Joins};
 ghost use Rattle.codes.specs.Codes.{Coded, outcomeCode};
 use codes::answer;
-use codes::answer::Answer;
+use codes::answer::DoneAnswer;
 
 // The destination gets the source's members; the source is only read.
 #[no_mangle]
@@ -18,7 +18,7 @@ pub extern "C" fn bp_merge_from(
     srows: &[u32],
     sblocks: &[u32],
     stable: &[u64],
-) -> Answer
+) -> DoneAnswer
     ensures { λ r. ⌜ (let x = memOf (pages .entry) (rows .entry) (blocks .entry) (table .entry) in
         let y = memOf (spages .entry) (srows .entry) (sblocks .entry) (stable .entry) in
         let u = memOf (pages .exit) (rows .exit) (blocks .exit) (table .exit) in
@@ -47,7 +47,7 @@ pub extern "C" fn bp_merge(
     srows: &mut [u32],
     sblocks: &mut [u32],
     stable: &mut [u64],
-) -> Answer
+) -> DoneAnswer
     ensures { λ r. ⌜ (let x = memOf (pages .entry) (rows .entry) (blocks .entry) (table .entry) in
         let y = memOf (spages .entry) (srows .entry) (sblocks .entry) (stable .entry) in
         let u = memOf (pages .exit) (rows .exit) (blocks .exit) (table .exit) in

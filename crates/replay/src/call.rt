@@ -3,26 +3,27 @@ use crate::marks;
 use crate::memory;
 use crate::partition;
 use crate::say;
+use crate::told;
+use crate::told::Told;
 use crate::verb;
-use codes::answer::Answer;
 use exports::change;
 use exports::number;
 use exports::read;
 use lines::words;
 
 // `setup K s m D V R P`
-fn set_up(line: &[u8], p: &mut [u64], r: &mut [u32], b: &mut [u32], t: &mut [u64]) -> Answer {
+fn set_up(line: &[u8], p: &mut [u64], r: &mut [u32], b: &mut [u32], t: &mut [u64]) -> Told {
     let a = verb::numbers(line);
-    change::bp_set_up(a[0], a[1], a[2], a[3], a[4], a[5], p, r, b, t)
+    told::done(change::bp_set_up(a[0], a[1], a[2], a[3], a[4], a[5], p, r, b, t))
 }
 
 // By an id.
-fn put(v: u64, id: i64, p: &mut [u64], r: &mut [u32], b: &mut [u32], t: &mut [u64]) -> Answer {
+fn put(v: u64, id: i64, p: &mut [u64], r: &mut [u32], b: &mut [u32], t: &mut [u64]) -> Told {
     match v {
-        0 => change::bp_set(p, r, b, t, id),
-        1 => change::bp_pre_allocate(p, r, b, t, id),
-        6 => change::bp_set_if_new(p, r, b, t, id),
-        _ => change::bp_set_prepared(p, r, b, t, id),
+        0 => told::done(change::bp_set(p, r, b, t, id)),
+        1 => told::done(change::bp_pre_allocate(p, r, b, t, id)),
+        6 => told::truth(change::bp_set_if_new(p, r, b, t, id)),
+        _ => told::truth(change::bp_set_prepared(p, r, b, t, id)),
     }
 }
 
@@ -34,10 +35,10 @@ pub fn changes(
     r: &mut [u32],
     b: &mut [u32],
     t: &mut [u64],
-) -> Answer {
+) -> Told {
     match v {
-        2 => change::bp_into_ranked(p, r, b, t),
-        3 => change::bp_into_open(p, r, b, t),
+        2 => told::done(change::bp_into_ranked(p, r, b, t)),
+        3 => told::done(change::bp_into_open(p, r, b, t)),
         4 => set_up(line, p, r, b, t),
         5 => memory::poke(line, p, r, b, t),
         _ => put(v, words::id_or(line, 2, 0), p, r, b, t),
@@ -45,18 +46,18 @@ pub fn changes(
 }
 
 // What only reads one; kind 3 stands for no call.
-fn asks(v: u64, id: i64, p: &[u64], r: &[u32], b: &[u32], t: &[u64]) -> Answer {
+fn asks(v: u64, id: i64, p: &[u64], r: &[u32], b: &[u32], t: &[u64]) -> Told {
     match v {
-        8 => read::bp_get(p, r, b, t, id),
-        9 => read::bp_is_empty(p, r, b, t),
-        10 => read::bp_has_any(p, r, b, t),
-        11 => read::bp_chunk_of(p, r, b, t, id),
-        12 => read::bp_rank(p, r, b, t, id),
-        13 => read::bp_rank_if_set(p, r, b, t, id),
-        14 => read::bp_len(p, r, b, t),
-        15 => read::bp_allocated_chunk_count(p, r, b, t),
-        16 => read::bp_total_count(p, r, b, t),
-        _ => Answer { kind: 3, value: 0 },
+        8 => told::truth(read::bp_get(p, r, b, t, id)),
+        9 => told::truth(read::bp_is_empty(p, r, b, t)),
+        10 => told::truth(read::bp_has_any(p, r, b, t)),
+        11 => told::optional(read::bp_chunk_of(p, r, b, t, id)),
+        12 => told::number(read::bp_rank(p, r, b, t, id)),
+        13 => told::optional(read::bp_rank_if_set(p, r, b, t, id)),
+        14 => told::number(read::bp_len(p, r, b, t)),
+        15 => told::number(read::bp_allocated_chunk_count(p, r, b, t)),
+        16 => told::number(read::bp_total_count(p, r, b, t)),
+        _ => Told { kind: 3, value: 0 },
     }
 }
 
@@ -72,7 +73,7 @@ fn bounded(line: &[u8]) {
 fn any(line: &[u8], p: &[u64], r: &[u32], b: &[u32], t: &[u64]) {
     let min = words::id_or(line, 2, 0);
     let max = words::id_or(line, 3, 0);
-    say::answer(8, read::bp_any_in_range(p, r, b, t, min, max));
+    say::answer(8, told::truth(read::bp_any_in_range(p, r, b, t, min, max)));
 }
 
 // What changes nothing.

@@ -7,6 +7,7 @@ mod memory;
 mod pair;
 mod partition;
 mod say;
+mod told;
 mod verb;
 
 ghost use mathlib.Core.Path.{_≡_};
@@ -61,7 +62,7 @@ fn answer(line: &[u8], p: &mut [u64], r: &mut [u32], b: &mut [u32], t: &mut [u64
     let v = verb::of(line);
     let k = verb::up_to(line, 1, 1);
     match v {
-        27..=28 => say::answer(0, pair::unite(v, k, p, r, b, t)),
+        27..=28 => say::answer(0, told::done(pair::unite(v, k, p, r, b, t))),
         _ => on_half(v, k, line, p, r, b, t, c),
     }
 }

@@ -1,6 +1,6 @@
 // The elements of a set's pools, one by one: to make memory that no call made, and to see what calls left.
 use crate::say;
-use codes::answer::Answer;
+use crate::told::Told;
 use lines::signs;
 use lines::words;
 
@@ -25,7 +25,7 @@ pub fn put32(pool: &mut [u32], i: usize, v: u64) -> u64 {
 }
 
 // `poke K slice index value`
-pub fn poke(line: &[u8], p: &mut [u64], r: &mut [u32], b: &mut [u32], t: &mut [u64]) -> Answer {
+pub fn poke(line: &[u8], p: &mut [u64], r: &mut [u32], b: &mut [u32], t: &mut [u64]) -> Told {
     let i = words::number_or(line, 3, 0) as usize;
     let v = words::number_or(line, 4, 0);
     let kind = match words::number_or(line, 2, 0) {
@@ -35,7 +35,7 @@ pub fn poke(line: &[u8], p: &mut [u64], r: &mut [u32], b: &mut [u32], t: &mut [u
         3 => put(t, i, v),
         _ => 3,
     };
-    Answer { kind, value: 0 }
+    Told { kind, value: 0 }
 }
 
 // An element that is not 0, as `p7=12`; a space before it if there are some already. Answers whether there are now.

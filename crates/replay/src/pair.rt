@@ -3,7 +3,7 @@ ghost use mathlib.Core.Path.{_≡_};
 ghost use Prim.Native.Nat.{_≤_};
 ghost use lib.ListN.{length};
 use crate::memory;
-use codes::answer::Answer;
+use codes::answer::DoneAnswer;
 use exports::union;
 
 // The elements from one on, as far as there is room in the other from one on.
@@ -39,7 +39,7 @@ fn into(
     sr: &mut [u32],
     sb: &mut [u32],
     st: &mut [u64],
-) -> Answer
+) -> DoneAnswer
     requires { ⌜ (k ≤ 1) × (length (now p) ≡ 16384) × (length (now r) ≡ 8192) × (length (now b) ≡ 2048) × (length (now t) ≡ 2048) ⌝ }
 {
     let kp = &mut p[8192 * k..8192 * k + 8192];
@@ -53,7 +53,14 @@ fn into(
 }
 
 // `from K J` and `merge K J`: J is the other set.
-pub fn unite(v: u64, k: usize, p: &mut [u64], r: &mut [u32], b: &mut [u32], t: &mut [u64]) -> Answer
+pub fn unite(
+    v: u64,
+    k: usize,
+    p: &mut [u64],
+    r: &mut [u32],
+    b: &mut [u32],
+    t: &mut [u64],
+) -> DoneAnswer
     requires { ⌜ (k ≤ 1) × (length (now p) ≡ 16384) × (length (now r) ≡ 8192) × (length (now b) ≡ 2048) × (length (now t) ≡ 2048) ⌝ }
 {
     let j = 1 - k;

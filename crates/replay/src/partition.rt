@@ -1,7 +1,7 @@
 // Plans, and the calls on a partition: number k, word 6, of the record that words 2 to 4 are, with as many of a set's boundaries as word 5 says.
 use crate::say;
 use crate::verb;
-use codes::cut::IdsAnswer;
+use codes::cut::IntervalAnswer;
 use exports::partition;
 use lines::words;
 
@@ -13,13 +13,12 @@ pub fn plan(line: &[u8], p: &[u64], r: &[u32], b: &[u32], t: &[u64], c: &mut [i6
 }
 
 // The partition's ids, from one on, or from one up to another.
-fn told(v: u64, line: &[u8], i: IdsAnswer) {
+fn told(v: u64, line: &[u8], i: IntervalAnswer) {
     let x = words::id_or(line, 7, 0);
     let y = words::id_or(line, 8, 0);
-    let high = i.kind == 1;
     match v {
-        21 => say::is(partition::bp_in_partition(x, high, i.low, i.high)),
-        _ => say::is(partition::bp_range_meets(x, y, high, i.low, i.high)),
+        21 => say::is(partition::bp_in_partition(x, i.has_high, i.low, i.high)),
+        _ => say::is(partition::bp_range_meets(x, y, i.has_high, i.low, i.high)),
     }
 }
 
@@ -28,7 +27,7 @@ pub fn call(v: u64, line: &[u8], c: &[i64]) {
     let a = verb::numbers(line);
     let room = verb::up_to(line, 5, c.len());
     let i = partition::bp_ids(a[0], a[1], a[2], &c[0..room], a[4]);
-    if i.kind == 2 {
+    if i.refusal != 0 {
         say::value(b"refused ", i.refusal);
         return;
     }

@@ -1,6 +1,7 @@
 // What is written.
-use codes::answer::Answer;
-use codes::cut::IdsAnswer;
+use crate::told::Told;
+use codes::answer::DoneAnswer;
+use codes::cut::IntervalAnswer;
 use codes::cut::PlanAnswer;
 use codes::cut::RanksAnswer;
 use document::answer::Listing;
@@ -51,7 +52,7 @@ pub fn is(b: bool) {
 }
 
 // What a call answers, by its verb: kind 2 is a refusal, and 3 stands for no call.
-pub fn answer(v: u64, a: Answer) {
+pub fn answer(v: u64, a: Told) {
     if a.kind == 2 {
         value(b"refused ", a.value);
         return;
@@ -104,9 +105,9 @@ fn first(marks: &[u8], n: usize) {
 }
 
 // A line of n marks.
-pub fn marks(a: Answer, marks: &[u8], n: usize) {
-    if a.kind == 2 {
-        value(b"refused ", a.value);
+pub fn marks(a: DoneAnswer, marks: &[u8], n: usize) {
+    if a.refusal != 0 {
+        value(b"refused ", a.refusal);
         return;
     }
     first(marks, n);
@@ -130,7 +131,7 @@ pub fn listing(a: Listing) {
 
 // A record, and its boundaries, one less than the partitions.
 pub fn plan(a: PlanAnswer, c: &[i64]) {
-    if a.kind == 2 {
+    if a.refusal != 0 {
         value(b"refused ", a.refusal);
         return;
     }
@@ -149,13 +150,13 @@ pub fn plan(a: PlanAnswer, c: &[i64]) {
 }
 
 // A partition's ends: `min` for the smallest i64, `end` for none.
-fn span(i: IdsAnswer) {
+fn span(i: IntervalAnswer) {
     if i.low == id_limits::SMALLEST {
         text(b"min");
     } else {
         id(b"", i.low);
     }
-    if i.kind == 1 {
+    if i.has_high {
         id(b" ", i.high);
     } else {
         text(b" end");
@@ -163,7 +164,7 @@ fn span(i: IdsAnswer) {
 }
 
 // A partition's ends, first rank and count.
-pub fn part(i: IdsAnswer, k: RanksAnswer) {
+pub fn part(i: IntervalAnswer, k: RanksAnswer) {
     span(i);
     number(b" ", k.first);
     value(b" ", k.count);

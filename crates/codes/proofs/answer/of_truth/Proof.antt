@@ -8,9 +8,6 @@ use Rattle.codes.proofs.answer.of_truth.Tie as tie
 enum-known-a : tie.Need-enum-known-a
 enum-known-a c = search needs
 
-cast-value : tie.Need-cast-value
-cast-value c = search needs
-
 enum-known-a-2 : tie.Need-enum-known-a-2
 enum-known-a-2 c = search needs
 
@@ -21,4 +18,4 @@ returns-2 : tie.Need-returns-2
 returns-2 c = ap truthCode (sym (c .before .a2 .given .1))
 
 pub of-truth-spec : {M : Type 1} → statement M
-of-truth-spec = tie.close (tie.spec enum-known-a cast-value enum-known-a-2 returns returns-2)
+of-truth-spec = tie.close (tie.spec enum-known-a enum-known-a-2 returns returns-2)
