@@ -1,46 +1,24 @@
--- Laws of the halving search: a turn of its loop, its bound on any content, its place where a point parts the offsets. Assumes nothing.
+-- Laws of the halving search: a turn, what is left after turns, its bound on any content, its place where a point parts the offsets. Assumes nothing.
 use mathlib.Core.Path.{_≡_, refl, sym, ap, _∙_}
 use mathlib.Core.Bool.{Bool, true, false, cond}
 use mathlib.Core.List.{List}
-use Prim.Native.Nat.{ℕ, zero, suc, _+_, _-_, _*_, _/_, _^_, _≤_, _<_}
+use Prim.Native.Nat.{ℕ, zero, suc, _+_, _-_, _/_, _≤_, _<_}
 use native.Mathlib.Omega.{arith}
-use lib.Dec.{leb, ltb, eqb}
+use lib.Dec.{ltb, eqb}
 use lib.ListN.{getD}
 use mir.Val.{boolByte}
-use borrow.Author.Tests.{ltb-true, ltb-false, lt-ltb, le-ltb, leb-true, leb-false, eqb-true, eqb-false, eq-eqb, ne-eqb}
+use borrow.Author.Tests.{ltb-true, ltb-false, lt-ltb, le-ltb, eqb-true, eqb-false, eq-eqb, ne-eqb}
 use Rattle.sums.proofs.Counts.{byte-le}
 use Rattle.sparse.specs.Search.{lowerIn, lowerOf}
 
--- ---- the loop
+-- ---- a turn
 
--- n places from lo on are left, and turns enough
-pub record Halving (row : List ℕ) (len x lo n : ℕ) : Type 0 where
-  pub turns : ℕ
-  pub enough : n ≤ turns + 1
-  pub some : 1 ≤ n
-  pub inside : lo + n ≤ len
-  pub same : lowerIn turns row x lo n ≡ lowerOf row len x
-
--- the end of the search, and one turn of it
+-- the end of the search, and the part that one turn keeps
 abbrev last : List ℕ → ℕ → ℕ → ℕ
 last row x lo = lo + boolByte (ltb (getD row lo 0) x)
 
 abbrev kept : List ℕ → ℕ → ℕ → ℕ → ℕ
 kept row x lo n = cond (ltb (getD row (lo + n / 2) 0) x) (lo + n / 2) lo
-
--- a half, or nothing where the test says yes
-abbrev pub moved : Bool → ℕ → ℕ
-moved b h = h / 2 ^ (32 * boolByte b) / 2 ^ (32 * boolByte b)
-
-moved-none : (h : ℕ) → h < 2 ^ 64 → moved true h ≡ 0
-moved-none h l = omega arith
-
-moved-all : (h : ℕ) → moved false h ≡ h
-moved-all h = omega arith
-
-pub moved-le : (b : Bool) (h : ℕ) → h < 2 ^ 64 → moved b h ≤ h
-moved-le true h l = omega (arith, moved-none h l)
-moved-le false h l = omega (arith, moved-all h)
 
 module _ (row : List ℕ) (x : ℕ) where
   in-turn : (t lo n : ℕ) → 1 < n → lowerIn (suc t) row x lo n ≡ lowerIn t row x (kept row x lo n) (n - n / 2)
@@ -56,6 +34,53 @@ module _ (row : List ℕ) (x : ℕ) where
   in-end zero lo n m = refl
   in-end (suc t) lo n m = ap (λ (b : Bool). cond b (lowerIn t row x (kept row x lo n) (n - n / 2)) (last row x lo)) (le-ltb 1 n m)
 
+  -- turns enough are turns enough
+  in-same : (t u lo n : ℕ) → n ≤ t + 1 → n ≤ u + 1 → lowerIn t row x lo n ≡ lowerIn u row x lo n
+  in-same zero u lo n a b = in-end 0 lo n (omega arith) ∙ sym (in-end u lo n (omega arith))
+  in-same (suc t) zero lo n a b = in-end (suc t) lo n (omega arith) ∙ sym (in-end 0 lo n (omega arith))
+  in-same (suc t) (suc u) lo n a b = go (ltb 1 n) refl (in-same t u)
+    where
+      go : (c : Bool) → ltb 1 n ≡ c → ((lo n : ℕ) → n ≤ t + 1 → n ≤ u + 1 → lowerIn t row x lo n ≡ lowerIn u row x lo n) → lowerIn (suc t) row x lo n ≡ lowerIn (suc u) row x lo n
+      go true e r = let m = ltb-true 1 n e in in-turn t lo n m ∙ r (kept row x lo n) (n - n / 2) (omega arith) (omega arith) ∙ sym (in-turn u lo n m)
+      go false e r = let m = ltb-false 1 n e in in-end (suc t) lo n m ∙ sym (in-end (suc u) lo n m)
+
+  -- of one place nothing is left out
+  kept-one : (lo n : ℕ) → n ≤ 1 → kept row x lo n ≡ lo
+  kept-one lo n m = go (ltb (getD row (lo + n / 2) 0) x)
+    where
+      go : (b : Bool) → cond b (lo + n / 2) lo ≡ lo
+      go true = omega arith
+      go false = refl
+
+  kept-same : (lo n : ℕ) → 1 ≤ n → lowerIn (n - n / 2) row x (kept row x lo n) (n - n / 2) ≡ lowerIn n row x lo n
+  kept-same lo zero s = absurd (omega arith)
+  kept-same lo (suc t) s = go (ltb 1 (suc t)) refl
+    where
+      go : (b : Bool) → ltb 1 (suc t) ≡ b → lowerIn (suc t - suc t / 2) row x (kept row x lo (suc t)) (suc t - suc t / 2) ≡ lowerIn (suc t) row x lo (suc t)
+      go true e = let m = ltb-true 1 (suc t) e in in-same (suc t - suc t / 2) t (kept row x lo (suc t)) (suc t - suc t / 2) (omega arith) (omega arith) ∙ sym (in-turn t lo (suc t) m)
+      go false e =
+          let m = ltb-false 1 (suc t) e in
+          in-end (suc t - suc t / 2) (kept row x lo (suc t)) (suc t - suc t / 2) (omega arith) ∙ ap (last row x) (kept-one lo (suc t) m) ∙ sym (in-end (suc t) lo (suc t) m)
+
+  -- the part from p on that the test of the middle leaves: it lies inside, and gives the same answer
+  module _ (lo n p : ℕ) (some : 1 ≤ n) where
+    on-kept : kept row x lo n ≡ p → p ≤ lo + n / 2 → (p + (n - n / 2) ≤ lo + n) × (lowerIn (n - n / 2) row x p (n - n / 2) ≡ lowerIn n row x lo n)
+    on-kept e l = (omega arith, ap (λ (k : ℕ). lowerIn (n - n / 2) row x k (n - n / 2)) (sym e) ∙ kept-same lo n some)
+
+    pub upper-half : getD row (lo + n / 2) 0 < x → p ≡ lo + n / 2 → (p + (n - n / 2) ≤ lo + n) × (lowerIn (n - n / 2) row x p (n - n / 2) ≡ lowerIn n row x lo n)
+    upper-half l e = on-kept (ap (λ (b : Bool). cond b (lo + n / 2) lo) (lt-ltb (getD row (lo + n / 2) 0) x l) ∙ sym e) (omega arith)
+
+    pub lower-half : x ≤ getD row (lo + n / 2) 0 → p ≡ lo → (p + (n - n / 2) ≤ lo + n) × (lowerIn (n - n / 2) row x p (n - n / 2) ≡ lowerIn n row x lo n)
+    lower-half l e = on-kept (ap (λ (b : Bool). cond b (lo + n / 2) lo) (le-ltb (getD row (lo + n / 2) 0) x l) ∙ sym e) (omega arith)
+
+-- ---- what is left
+
+-- n places from lo on, with the whole search's answer
+pub record Halving (row : List ℕ) (len x lo n : ℕ) : Type 0 where
+  pub some : 1 ≤ n
+  pub inside : lo + n ≤ len
+  pub same : lowerIn n row x lo n ≡ lowerOf row len x
+
 module _ (row : List ℕ) (len x : ℕ) where
   lower-none : len ≡ 0 → lowerOf row len x ≡ 0
   unfolding lowerOf
@@ -69,38 +94,13 @@ module _ (row : List ℕ) (len x : ℕ) where
   halving-none e = sym (lower-none e)
 
   pub halving-start : (len ≡ 0 → ⊥) → Halving row len x 0 len
-  halving-start e = record { turns = len; enough = omega arith; some = omega arith; inside = omega arith; same = sym (lower-some e) }
+  halving-start e = record { some = omega arith; inside = omega arith; same = sym (lower-some e) }
 
-  -- the part that is kept begins at p
-  pub halving-turn : (lo n p : ℕ) → Halving row len x lo n → 1 < n → kept row x lo n ≡ p → p ≤ lo + n / 2 → Halving row len x p (n - n / 2)
-  halving-turn lo n p h m e q = go (h .turns) (h .enough) (h .same) (h .inside)
-    where
-      go : (t : ℕ) → n ≤ t + 1 → lowerIn t row x lo n ≡ lowerOf row len x → lo + n ≤ len → Halving row len x p (n - n / 2)
-      go zero a b i = absurd (omega arith)
-      go (suc t) a b i = record {
-        turns = t;
-        enough = omega arith;
-        some = omega arith;
-        inside = omega arith;
-        same = ap (λ (k : ℕ). lowerIn t row x k (n - n / 2)) (sym e) ∙ sym (in-turn row x t lo n m) ∙ b;
-      }
-
-  -- the code moves on by a shift
-  pub halving-step : (lo n : ℕ) → Halving row len x lo n → 1 < n → n < 2 ^ 64 → Halving row len x (lo + moved (leb x (getD row (lo + n / 2) 0)) (n / 2)) (n - n / 2)
-  halving-step lo n h m l = go (leb x (getD row (lo + n / 2) 0)) refl
-    where
-      go : (b : Bool) → leb x (getD row (lo + n / 2) 0) ≡ b → Halving row len x (lo + moved (leb x (getD row (lo + n / 2) 0)) (n / 2)) (n - n / 2)
-      go true e =
-          let z : moved (leb x (getD row (lo + n / 2) 0)) (n / 2) ≡ 0 = ap (λ (b : Bool). moved b (n / 2)) e ∙ moved-none (n / 2) (omega arith) in
-          halving-turn lo n (lo + moved (leb x (getD row (lo + n / 2) 0)) (n / 2)) h m
-          (ap (λ (b : Bool). cond b (lo + n / 2) lo) (le-ltb (getD row (lo + n / 2) 0) x (leb-true x (getD row (lo + n / 2) 0) e)) ∙ (let d : lo ≡ lo + moved (leb x (getD row (lo + n / 2) 0)) (n / 2) = omega arith in d)) (omega arith)
-      go false e =
-          let z : moved (leb x (getD row (lo + n / 2) 0)) (n / 2) ≡ n / 2 = ap (λ (b : Bool). moved b (n / 2)) e ∙ moved-all (n / 2) in
-          halving-turn lo n (lo + moved (leb x (getD row (lo + n / 2) 0)) (n / 2)) h m
-          (ap (λ (b : Bool). cond b (lo + n / 2) lo) (lt-ltb (getD row (lo + n / 2) 0) x (leb-false x (getD row (lo + n / 2) 0) e)) ∙ (let d : lo + n / 2 ≡ lo + moved (leb x (getD row (lo + n / 2) 0)) (n / 2) = omega arith in d)) (omega arith)
+  pub halving-on : {lo n p k : ℕ} → Halving row len x lo n → 1 ≤ k → p + k ≤ lo + n → lowerIn k row x p k ≡ lowerIn n row x lo n → Halving row len x p k
+  halving-on h s i e = record { some = s; inside = omega (arith, h .inside); same = e ∙ h .same }
 
   pub halving-end : (lo n : ℕ) → Halving row len x lo n → n ≤ 1 → lo + boolByte (ltb (getD row lo 0) x) ≡ lowerOf row len x
-  halving-end lo n h m = sym (in-end row x (h .turns) lo n m) ∙ h .same
+  halving-end lo n h m = sym (in-end row x n lo n m) ∙ h .same
 
 -- ---- any content
 

@@ -2,9 +2,9 @@
 pub mod list;
 
 ghost use mathlib.Core.Path.{_≡_};
-ghost use Prim.Native.Nat.{_+_, _≤_, _<_};
+ghost use Prim.Native.Nat.{_+_, _*_, _≤_, _<_};
 ghost use lib.ListN.{length};
-ghost use Rattle.sparse.specs.Search.{lowerOf, foundIn, searchIn, spotIn, anyIn};
+ghost use Rattle.sparse.specs.Search.{lowerIn, lowerOf, foundIn, searchIn, spotIn, anyIn};
 ghost use Rattle.sparse.specs.Edit.{insertedAt, cleared, copied};
 ghost use Rattle.sparse.specs.Union.{merged, union, onFront};
 
@@ -16,7 +16,41 @@ pub enum Place {
 
 // ---- searching
 
-// The number of offsets below a bound, by halving. Moving on by half or by nothing is a shift and no branch: which way it goes can't be foreseen.
+// What is left of a search: n places from lo on.
+struct Left {
+    lo: usize,
+    n: usize,
+}
+
+// The half that holds the answer, as a choice of two numbers: which one it is can't be foreseen. One place stays as it is.
+fn halved(row: &[u32], off: u32, left: Left) -> Left
+    requires { ⌜ (1 ≤ left .n) × (left .lo + left .n ≤ length (now row)) ⌝ }
+    ensures { λ r. ⌜ (1 ≤ r .n) × (2 * r .n ≤ left .n + 1) × (r .lo + r .n ≤ left .lo + left .n)
+        × (lowerIn (r .n) (now (row .entry)) off (r .lo) (r .n) ≡ lowerIn (left .n) (now (row .entry)) off (left .lo) (left .n)) ⌝ }
+{
+    let half = left.n / 2;
+    let mid = left.lo + half;
+    let lo = if row[mid] < off { mid } else { left.lo };
+    Left {
+        lo: lo,
+        n: left.n - half,
+    }
+}
+
+// Five times: up to 32 places become one. Turns in a row, and not in a loop, since in a loop the compiler jumps.
+fn halved_five_times(row: &[u32], off: u32, left: Left) -> Left
+    requires { ⌜ (1 ≤ left .n) × (left .lo + left .n ≤ length (now row)) ⌝ }
+    ensures { λ r. ⌜ (1 ≤ r .n) × (32 * r .n ≤ left .n + 31) × (r .lo + r .n ≤ left .lo + left .n)
+        × (lowerIn (r .n) (now (row .entry)) off (r .lo) (r .n) ≡ lowerIn (left .n) (now (row .entry)) off (left .lo) (left .n)) ⌝ }
+{
+    let a = halved(row, off, left);
+    let b = halved(row, off, a);
+    let c = halved(row, off, b);
+    let d = halved(row, off, c);
+    halved(row, off, d)
+}
+
+// The number of offsets below a bound, by halving; no row has more than 1,024.
 pub fn below(row: &[u32], len: usize, off: u32) -> usize
     requires { ⌜ len ≤ length (now row) ⌝ }
     ensures { λ r. ⌜ r ≡ lowerOf (now (row .entry)) len off ⌝ }
@@ -24,15 +58,15 @@ pub fn below(row: &[u32], len: usize, off: u32) -> usize
     if len == 0 {
         return 0;
     }
-    let mut lo: usize = 0;
-    let mut n = len;
-    while 1 < n {
-        let half = n / 2;
-        let mid = lo + half;
-        n -= half;
-        let t = 32 * (off <= row[mid]) as usize;
-        lo += half >> t >> t;
+    let mut left = Left { lo: 0, n: len };
+    while 1024 < left.n {
+        left = halved(row, off, left);
     }
+    if 32 < left.n {
+        left = halved_five_times(row, off, left);
+    }
+    let last = halved_five_times(row, off, left);
+    let lo = last.lo;
     lo + (row[lo] < off) as usize
 }
 
