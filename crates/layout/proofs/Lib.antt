@@ -1,6 +1,7 @@
 pub mod Heads
 pub mod Places
 pub mod Entries
+pub mod Eights
 pub mod Tests
 pub mod Finds
 pub mod Spots

@@ -2,6 +2,7 @@ pub mod Mem
 pub mod Sizes
 pub mod Places
 pub mod Entries
+pub mod Eight
 pub mod Meaning
 pub mod Follows
 pub mod Tests

@@ -1,11 +1,12 @@
 // The directory as one run of entries, and the owners of rows and pages.
 ghost use mathlib.Core.Path.{_≡_};
 ghost use Prim.Native.Nat.{_+_, _≤_};
-ghost use lib.ListN.{getD};
+ghost use lib.ListN.{length, getD};
 ghost use Rattle.document.specs.Sizes.{InRange};
-ghost use Rattle.layout.specs.Sizes.{headerAt, overAt};
+ghost use Rattle.layout.specs.Sizes.{headerAt, directAt, overAt};
 ghost use Rattle.layout.specs.Places.{rowOwner, pageOwner};
 ghost use Rattle.layout.specs.Entries.{chunkAt, wordAt, prefixAt, placeAt};
+ghost use Rattle.layout.specs.Eight.{eightAre, eightAbsent};
 use crate::head;
 use crate::place;
 use crate::place::Place;
@@ -99,4 +100,40 @@ pub fn chunk_by(table: &[u64], e: u64) -> u64
         return e;
     }
     element::at(table, 16 + 2 * d + 3 * (e - d))
+}
+
+// ---- eight direct entries at once
+
+// The words at a, a + 2, .., a + 14 are all v.
+fn eight_are(table: &[u64], a: u64, v: u64) -> bool
+    requires { ⌜ (a ≤ 1048576) × (a + 15 ≤ length (now table)) ⌝ }
+    ensures { λ b. ⌜ b ≡ eightAre (now (table .entry)) a v ⌝ }
+{
+    let mut ok = true;
+    let mut i: u64 = 0;
+    while i < 8 {
+        let k = (a + 2 * i) as usize;
+        ok = ok & (table[k] == v);
+        i += 1;
+    }
+    ok
+}
+
+// Of d direct entries, those from e to e + 7 are there and absent. Asked at every eighth entry, so that none is looked at twice.
+pub fn eight_absent(table: &[u64], d: u64, e: u64) -> bool
+    requires { ⌜ (d ≤ 262144) × (e ≤ 327680) × (directAt d ≤ length (now table)) ⌝ }
+    ensures { λ b. ⌜ b ≡ eightAbsent (now (table .entry)) d e ⌝ }
+{
+    if !((e % 8 == 0) & (e + 8 <= d)) {
+        return false;
+    }
+    eight_are(table, 16 + 2 * e, 0)
+}
+
+// Their prefixes are all n.
+pub fn eight_prefixes(table: &[u64], e: u64, n: u64) -> bool
+    requires { ⌜ (e ≤ 327680) × (directAt (e + 8) ≤ length (now table)) ⌝ }
+    ensures { λ b. ⌜ b ≡ eightAre (now (table .entry)) (directAt e + 1) n ⌝ }
+{
+    eight_are(table, 16 + 2 * e + 1, n)
 }

@@ -1,6 +1,6 @@
 // The owners of rows and of pages, each as one run: the lowest free one, and how many are taken.
 ghost use mathlib.Core.Path.{_≡_};
-ghost use mathlib.Core.Bool.{not};
+ghost use mathlib.Core.Bool.{not, _&&_};
 ghost use Prim.Native.Nat.{ℕ, _+_, _-_, _≤_};
 ghost use lib.ListN.{getD};
 ghost use lib.Dec.{eqb};
@@ -8,6 +8,7 @@ ghost use Rattle.sums.specs.Ids.{count};
 ghost use Rattle.document.specs.Sizes.{InRange};
 ghost use Rattle.layout.specs.Places.{rowOwner, pageOwner};
 ghost use Rattle.layout.specs.Free.{firstFree};
+ghost use Rattle.layout.specs.Tests.{rowsOwned, pagesOwned};
 use document::sizes::Sizes;
 use layout::head;
 use numbers::element;
@@ -87,4 +88,12 @@ pub fn pages_owned(table: &[u64], h: Sizes) -> u64
     ensures { λ k. ⌜ k ≡ count (λ (p : ℕ). not (eqb (pageOwner h (now (table .entry)) p) 0)) (h .p) ⌝ }
 {
     owned_count(table, head::page_owners_at(h), h.p)
+}
+
+// So many rows and so many pages have an owner.
+pub fn owners_are(table: &[u64], h: Sizes, rows: u64, pages: u64) -> bool
+    requires { ⌜ InRange h ⌝ }
+    ensures { λ b. ⌜ (let t = now (table .entry) in b ≡ (eqb (rowsOwned h t) rows && eqb (pagesOwned h t) pages)) ⌝ }
+{
+    (rows_owned(table, h) == rows) & (pages_owned(table, h) == pages)
 }

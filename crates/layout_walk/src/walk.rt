@@ -1,13 +1,16 @@
 // The walk over the table that calls make before they write to many chunks, or plan: every rule that is the table's alone.
 ghost use mathlib.Core.Path.{_≡_};
-ghost use Prim.Native.Nat.{_+_, _≤_};
+ghost use mathlib.Core.Bool.{true, not, _&&_, _||_};
+ghost use Prim.Native.Nat.{_+_, _^_, _≤_};
 ghost use lib.ListN.{length};
-ghost use lib.Dec.{eqb};
+ghost use lib.Dec.{leb, ltb, eqb};
 ghost use Rattle.sums.specs.Rules.{allTo};
 ghost use Rattle.layout.specs.Mem.{memOf};
 ghost use Rattle.document.specs.Sizes.{InRange};
-ghost use Rattle.layout.specs.Sizes.{tableSize, overCount};
-ghost use Rattle.layout.specs.Tests.{keyIs, wordIs, placeIs, ranksRise, headIs, overIs, entriesAre, tableIs, walked};
+ghost use Rattle.layout.specs.Sizes.{tableSize, overCount, totalAt};
+ghost use Rattle.layout.specs.Entries.{entries};
+ghost use Rattle.layout.specs.Tests.{keyIs, wordIs, placeIs, rankedAt, headIs, overIs, tableIs, walked};
+ghost use Rattle.layout_walk.specs.Found.{Found, EightAlike};
 use crate::owners;
 use crate::zeros;
 use document::sizes::Sizes;
@@ -100,46 +103,71 @@ pub fn place_is(table: &[u64], h: Sizes, e: u64) -> bool
     }
 }
 
-// All entries in one pass: their places, and how many rows and pages they name.
-pub fn entries_are(table: &[u64], h: Sizes) -> bool
-    requires { ⌜ InRange h × (overCount (now table) ≤ 65536) ⌝ }
-    ensures { λ b. ⌜ b ≡ entriesAre h (now (table .entry)) ⌝ }
+// What the entries before e have, in one pass.
+pub struct Passed {
+    // their places are good
+    pub ok: bool,
+    // rows and pages that they name
+    pub rows: u64,
+    pub pages: u64,
+    // no prefix is above the next
+    pub rise: bool,
+    // the last one's prefix
+    pub prefix: u64,
+}
+
+// Entries e to e + 7 are absent and their prefixes all n: nothing changes but e. Absent entries are the many.
+fn eight_alike(table: &[u64], h: Sizes, e: u64, n: u64) -> bool
+    requires { ⌜ InRange h × (tableSize h ≤ length (now table)) × (e ≤ 327680) ⌝ }
+    ensures { λ b. ⌜ (b ≡ true → EightAlike h (now (table .entry)) e n) ⌝ }
+{
+    if !entry::eight_absent(table, h.d, e) {
+        return false;
+    }
+    entry::eight_prefixes(table, e, n)
+}
+
+// All entries in one pass.
+pub fn pass(table: &[u64], h: Sizes) -> Passed
+    requires { ⌜ InRange h × (tableSize h ≤ length (now table)) × (overCount (now table) ≤ 65536) ⌝ }
+    ensures { λ p. ⌜ (let t = now (table .entry) in Found h t (entries h t) (p .ok) (p .rows) (p .pages) (p .rise) (p .prefix)) ⌝ }
 {
     let n = h.d + head::over_count(table);
     let mut ok = true;
     let mut rows: u64 = 0;
     let mut pages: u64 = 0;
-    let mut e: u64 = 0;
-    while e < n {
-        let q = entry::place_at(table, h, e);
-        ok = ok & place_is(table, h, e);
-        rows += place::has_row(q) as u64;
-        pages += place::has_page(q) as u64;
-        e += 1;
-    }
-    ok & ((owners::rows_owned(table, h) == rows) & (owners::pages_owned(table, h) == pages))
-}
-
-// Prefixes of a ranked set, each read once; an open one keeps none.
-pub fn ranks_rise(table: &[u64], h: Sizes) -> bool
-    requires { ⌜ InRange h × (overCount (now table) ≤ 65536) ⌝ }
-    ensures { λ b. ⌜ b ≡ ranksRise h (now (table .entry)) ⌝ }
-{
-    if head::mode(table) != head::RANKED {
-        return true;
-    }
-    let n = h.d + head::over_count(table);
-    let mut ok = true;
+    let mut rise = true;
     let mut prefix: u64 = 0;
     let mut e: u64 = 0;
     while e < n {
-        let next = entry::prefix_at(table, h, e);
-        ok = ok & (prefix <= next);
-        prefix = next;
-        e += 1;
+        if eight_alike(table, h, e, prefix) {
+            e += 8;
+        } else {
+            let q = entry::place_at(table, h, e);
+            let next = entry::prefix_at(table, h, e);
+            ok = ok & place_is(table, h, e);
+            rows += place::has_row(q) as u64;
+            pages += place::has_page(q) as u64;
+            rise = rise & (prefix <= next);
+            prefix = next;
+            e += 1;
+        }
     }
+    Passed {
+        ok: ok,
+        rows: rows,
+        pages: pages,
+        rise: rise,
+        prefix: prefix,
+    }
+}
+
+// The last prefix and the total, after prefixes that rise or not; an open set keeps none.
+pub fn ranks_rise(table: &[u64], rise: bool, prefix: u64) -> bool
+    ensures { λ b. ⌜ (let t = now (table .entry) in b ≡ (not (rankedAt t) || (rise && leb prefix (totalAt t) && ltb (totalAt t) (2 ^ 63)))) ⌝ }
+{
     let total = head::total(table);
-    ok & (prefix <= total) & (total < id::LIMIT)
+    (head::mode(table) != head::RANKED) | (rise & (prefix <= total) & (total < id::LIMIT))
 }
 
 // The sizes are allowed, the slices long enough, the mode is known and the overflow entries in use fit.
@@ -165,7 +193,11 @@ pub fn table_is(table: &[u64], h: Sizes) -> bool
     requires { ⌜ InRange h × (tableSize h ≤ length (now table)) × (overCount (now table) ≤ h .v) ⌝ }
     ensures { λ b. ⌜ b ≡ tableIs h (now (table .entry)) ⌝ }
 {
-    zeros::zeros64(table, 9, 7) & over_is(table, h) & entries_are(table, h) & ranks_rise(table, h)
+    let p = pass(table, h);
+    zeros::zeros64(table, 9, 7)
+        & over_is(table, h)
+        & (p.ok & owners::owners_are(table, h, p.rows, p.pages))
+        & ranks_rise(table, p.rise, p.prefix)
 }
 
 // After it nothing of the table can be found wrong.

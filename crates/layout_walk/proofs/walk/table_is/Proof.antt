@@ -1,26 +1,37 @@
 -- All rules of the table together. Assumes nothing.
-use native.Mathlib.Omega.{arith}
-use Rattle.layout_walk.proofs.Walks.{table-passes}
+use mathlib.Core.Path.{refl}
+use Rattle.layout_walk.proofs.Passes.{table-found}
 use borrow.Author.Needs.{needs}
 use Rattle.layout_walk.proofs.walk.table_is.Statement.{statement}
 use Rattle.layout_walk.proofs.walk.table_is.Tie as tie
 
+pass-requires : tie.Need-pass-requires
+pass-requires c κs = search needs
+
 zeros64-requires : tie.Need-zeros64-requires
-zeros64-requires c κs = omega (arith, c .before .pre .1)
+zeros64-requires c κs = search needs
 
 over-is-requires : tie.Need-over-is-requires
-over-is-requires c κs = c .before .before .pre
+over-is-requires c κs = search needs
 
-entries-are-requires : tie.Need-entries-are-requires
-entries-are-requires c κs = let p = c .before .before .before .pre in (p .0, omega (arith, p .0 .v-high, p .2))
+owners-are-requires : tie.Need-owners-are-requires
+owners-are-requires c κs = search needs
 
 ranks-rise-requires : tie.Need-ranks-rise-requires
-ranks-rise-requires c κs = let p = c .before .before .before .before .pre in (p .0, omega (arith, p .0 .v-high, p .2))
+ranks-rise-requires c κs = search needs
 
 returns : tie.Need-returns
-returns c = table-passes _ _ _ _ _ _ (c .before .before .before .zeros64 .ensures) (c .before .before .over-is .ensures) (c .before .entries-are .ensures) (c .ranks-rise .ensures)
+returns c =
+    table-found _ _ _ refl _ _ _ _ _ (c .before .before .before .before .before .pass .ensures) _ _ _ _
+    (c .before .before .before .before .zeros64 .ensures) (c .before .before .before .over-is .ensures) (c .before .before .owners-are .ensures) (c .ranks-rise .ensures)
 
 pub table-is-spec : {M : Type 1} → statement M
 table-is-spec =
     tie.close
-    (tie.spec zeros64-requires over-is-requires entries-are-requires ranks-rise-requires returns)
+    (tie.spec
+    pass-requires
+    zeros64-requires
+    over-is-requires
+    owners-are-requires
+    ranks-rise-requires
+    returns)
