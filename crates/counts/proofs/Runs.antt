@@ -1,21 +1,28 @@
 -- The members of the entries one by one. Assumes nothing.
 use mathlib.Core.Path.{_≡_, refl, sym, _∙_, ap, ap₂}
 use mathlib.Core.List.{List}
-use mathlib.Core.Bool.{Bool, not}
-use Prim.Native.Nat.{ℕ, zero, suc, _+_, _-_, _*_, _≤_}
+use mathlib.Core.Bool.{Bool, true, false, not, and-true}
+use Prim.Native.Nat.{ℕ, zero, suc, _+_, _-_, _*_, _≤_, _<_}
 use native.Mathlib.Omega.{arith}
 use lib.Dec.{ltb, eqb}
 use lib.ListN.{length, getD, take, drop}
 use borrow.Author.Tests.{lt-ltb, ne-eqb}
+use Rattle.sums.specs.Sums.{sumTo}
+use Rattle.sums.specs.Ids.{count}
+use Rattle.sums.specs.Rules.{allTo}
+use Rattle.sums.proofs.Sums.{sum-none, sum-split}
+use Rattle.sums.proofs.Counts.{count-none, count-split}
+use Rattle.sums.proofs.Rules.{all-more}
 use Rattle.dense.specs.Bits.{bitsTo, anyIn}
 use Rattle.dense.proofs.Counts.{bits-zero, bits-le}
 use Rattle.numbers.proofs.Powers.{powers}
 use Rattle.layout.specs.Mem.{Mem}
 use Rattle.layout.specs.Sizes.{head}
+use Rattle.layout.specs.Short.{spotOf}
 use Rattle.layout.specs.declared.find.Spot.{Spot}
 use Rattle.layout.specs.declared.find.Spot.the-variants.{Nowhere, Row, Page, Bad}
 use Rattle.calls.specs.Reading.{spotBy}
-use Rattle.calls.specs.Counts.{wordBy, isGood, sizeIn, goodAt, sizeBy}
+use Rattle.calls.specs.Counts.{wordBy, isGood, sizeIn, goodAt, sizeBy, usedAt}
 use Rattle.entries.proofs.Runs.{Run}
 use Rattle.layout.proofs.Lent.{span, length-lent}
 use Rattle.calls.proofs.Spots.{InPages, spot-row, spot-page}
@@ -75,3 +82,50 @@ module _ (x : Mem) (e : ℕ) where
           omega (arith, i .short, i .small)
       go (Page a n) f = omega (arith, page-small a n f r, bits-le (take n (drop a (x .pages))) (64 * n))
       go Bad f = omega arith
+
+-- ---- entries from a to r - 1 that are absent
+
+all-add : (f : ℕ → Bool) (a k : ℕ) → ((j : ℕ) → j < k → f (a + j) ≡ true) → allTo f (a + k) ≡ allTo f a
+all-add f a zero h = let z : a + 0 ≡ a = omega arith in ap (allTo f) z
+all-add f a (suc k) h =
+    let z : a + suc k ≡ a + k + 1 = omega arith in
+    ap (allTo f) z ∙ (sym (all-more f (a + k) (allTo f (a + k)) true refl (sym (h k (omega arith)))) ∙ (and-true (allTo f (a + k)) ∙ all-add f a k (λ (j : ℕ) (m : j < k). h j (omega arith))))
+
+module _ (x : Mem) where
+  module _ (e : ℕ) (z : wordBy x e ≡ 0) where
+    absent-good : goodAt x e ≡ true
+    unfolding goodAt spotOf
+    absent-good = ap (λ (w : ℕ). isGood (spotBy x w)) z
+
+    absent-size : sizeBy x e ≡ 0
+    unfolding sizeBy spotOf
+    absent-size = ap (λ (w : ℕ). sizeIn x (spotBy x w)) z
+
+    absent-used : usedAt x e ≡ false
+    unfolding usedAt
+    absent-used = ap (λ (w : ℕ). not (eqb w 0)) z
+
+  module _ (a r : ℕ) (l : a ≤ r) (z : (i : ℕ) → a ≤ i → i < r → wordBy x i ≡ 0) where
+    back : r ≡ a + (r - a)
+    back = omega arith
+
+    word-at : (j : ℕ) → j < r - a → wordBy x (a + j) ≡ 0
+    word-at j m = z (a + j) (omega arith) (omega arith)
+
+    pub good-past : allTo (goodAt x) a ≡ allTo (goodAt x) r
+    good-past = sym (ap (allTo (goodAt x)) back ∙ all-add (goodAt x) a (r - a) (λ (j : ℕ) (m : j < r - a). absent-good (a + j) (word-at j m)))
+
+    pub none-past : allTo (λ (e : ℕ). eqb (sizeBy x e) 0) a ≡ allTo (λ (e : ℕ). eqb (sizeBy x e) 0) r
+    none-past =
+        sym (ap (allTo (λ (e : ℕ). eqb (sizeBy x e) 0)) back
+        ∙ all-add (λ (e : ℕ). eqb (sizeBy x e) 0) a (r - a) (λ (j : ℕ) (m : j < r - a). ap (λ (k : ℕ). eqb k 0) (absent-size (a + j) (word-at j m))))
+
+    pub size-past : sumTo (sizeBy x) a ≡ sumTo (sizeBy x) r
+    size-past =
+        let n = sum-none (λ (j : ℕ). sizeBy x (a + j)) (r - a) (λ (j : ℕ) (m : j < r - a). absent-size (a + j) (word-at j m)) in
+        omega (arith, ap (sumTo (sizeBy x)) back, sum-split (sizeBy x) a (r - a))
+
+    pub used-past : count (usedAt x) a ≡ count (usedAt x) r
+    used-past =
+        let n = count-none (λ (j : ℕ). usedAt x (a + j)) (r - a) (λ (j : ℕ) (m : j < r - a). absent-used (a + j) (word-at j m)) in
+        omega (arith, ap (count (usedAt x)) back, count-split (usedAt x) a (r - a))

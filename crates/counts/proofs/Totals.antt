@@ -1,17 +1,18 @@
 -- `len`, `is_empty`, `has_any`, `allocated_chunk_count`, way by way: what the run over the entries has counted. Assumes nothing.
 use mathlib.Core.Path.{_≡_, refl, sym, _∙_, ap, ap₂}
+use mathlib.Core.Logic.{_≢_}
 use mathlib.Core.Bool.{Bool, true, false, cond, not, _&&_}
 use Prim.Native.Nat.{ℕ, _+_, _*_, _≤_, _<_}
 use native.Mathlib.Omega.{arith}
-use lib.Dec.{eqb}
-use borrow.Author.Tests.{eq-eqb, ne-eqb}
+use lib.Dec.{ltb, eqb}
+use borrow.Author.Tests.{ltb-true, ltb-false, eq-eqb, ne-eqb}
 use mir.Syntax.{w64}
 use mir.Val.{Fits, boolByte}
 use Rattle.sums.specs.Sums.{sumTo}
 use Rattle.sums.specs.Ids.{count}
 use Rattle.sums.specs.Rules.{allTo}
 use Rattle.sums.proofs.Sums.{sum-next, sum-bound}
-use Rattle.sums.proofs.Counts.{count-next, count-le, byte-le}
+use Rattle.sums.proofs.Counts.{count-zero, count-next, count-le, byte-le}
 use Rattle.sums.proofs.Rules.{all-end}
 use Rattle.sparse.proofs.Rows.{count-some}
 use Rattle.layout.specs.Mem.{Mem}
@@ -19,7 +20,7 @@ use Rattle.document.specs.declared.answer.Truth.the-variants as truth
 use Rattle.document.specs.declared.answer.Amount.the-variants as amount
 use Rattle.calls.specs.Counts.{entriesOk, entriesOf, wordBy, goodAt, sizeBy, usedAt, partsOk, lenBy, isEmptyBy, hasAnyBy, chunksBy}
 use Rattle.entries.proofs.Runs.{Run}
-use Rattle.counts.proofs.Runs.{size-most}
+use Rattle.counts.proofs.Runs.{size-most, used-past}
 
 module _ (x : Mem) where
   -- ---- refused
@@ -71,10 +72,6 @@ module _ (x : Mem) where
       pub chunk-fits : e < 327680 → Fits w64 (sum + boolByte (not (eqb w 0)))
       chunk-fits l = record { fits = omega (arith, s, count-le (usedAt x) e, byte-le (not (eqb w 0))) }
 
-  pub any-more : (e w : ℕ) → count (usedAt x) e ≡ 0 → w ≡ wordBy x e → w ≡ 0 → count (usedAt x) (e + 1) ≡ 0
-  any-more e w s g z =
-      sym (chunk-more e 0 (sym s) w g) ∙ ap (λ (j : ℕ). 0 + boolByte (not (eqb j 0))) z
-
   -- ---- at the end
 
   module _ (n e : ℕ) (en : n ≡ entriesOf x) (l : e ≤ n) (m : n ≤ e) where
@@ -118,12 +115,20 @@ module _ (x : Mem) where
     any-is b f =
         ap truth.Is f ∙ ap (λ (b : Bool). cond b (truth.Is (not (eqb (count (usedAt x) (entriesOf x)) 0))) (truth.Refused 3)) (sym ok)
 
-    pub any-none : (n e : ℕ) → n ≡ entriesOf x → e ≤ n → n ≤ e → count (usedAt x) e ≡ 0 → truth.Is false ≡ hasAnyBy x
+    any-none : (n e : ℕ) → n ≡ entriesOf x → e ≤ n → n ≤ e → count (usedAt x) e ≡ 0 → truth.Is false ≡ hasAnyBy x
     any-none n e en l m s = any-is false (ap not (sym (eq-eqb (count (usedAt x) (entriesOf x)) 0 (ap (count (usedAt x)) (sym (ends n e en l m)) ∙ s))))
 
-    pub any-found : (n e w : ℕ) → n ≡ entriesOf x → e < n → w ≡ wordBy x e → (w ≡ 0 → ⊥) → truth.Is true ≡ hasAnyBy x
+    any-found : (n e w : ℕ) → n ≡ entriesOf x → e < n → w ≡ wordBy x e → (w ≡ 0 → ⊥) → truth.Is true ≡ hasAnyBy x
     unfolding usedAt
     any-found n e w en l g z =
         let u : usedAt x e ≡ true = ap not (ne-eqb (wordBy x e) 0 (λ (q : wordBy x e ≡ 0). z (g ∙ q))) in
         let c = count-some (usedAt x) e (entriesOf x) (omega (arith, en)) u in
         any-is true (ap not (sym (ne-eqb (count (usedAt x) (entriesOf x)) 0 (λ (q : count (usedAt x) (entriesOf x) ≡ 0). omega arith))))
+
+    -- by the first entry that has a word, r, or n
+    pub any-next : (n r : ℕ) → n ≡ entriesOf x → r ≤ n → ((i : ℕ) → 0 ≤ i → i < r → wordBy x i ≡ 0) → (r < n → wordBy x r ≢ 0) → truth.Is (ltb r n) ≡ hasAnyBy x
+    any-next n r en l z u = go (ltb r n) refl
+      where
+        go : (b : Bool) → ltb r n ≡ b → truth.Is (ltb r n) ≡ hasAnyBy x
+        go true e = ap truth.Is e ∙ any-found n r (wordBy x r) en (ltb-true r n e) refl (u (ltb-true r n e))
+        go false e = ap truth.Is e ∙ any-none n r en l (ltb-false r n e) (sym (used-past x 0 r (omega arith) z) ∙ count-zero (usedAt x))

@@ -1,4 +1,4 @@
-// Counts of members and of chunks, in both modes. The run tests each entry as it comes.
+// Counts of members and of chunks, in both modes. The run tests each entry as it comes, and passes over absent ones.
 ghost use Rattle.layout.specs.Mem.{memOf};
 ghost use Rattle.document.specs.Calls.{len, is-empty, has-any, chunk-count, whether, many};
 ghost use Rattle.contracts.specs.Does.{Answers};
@@ -23,7 +23,7 @@ pub fn len(pages: &[u64], rows: &[u32], blocks: &[u32], table: &[u64]) -> Amount
         let p = parts::part_at(pages, rows, blocks, table, e);
         good = good & p.good;
         sum += p.size;
-        e += 1;
+        e = entries::next_used(table, e + 1, n);
     }
     if good {
         return Amount::Of(sum);
@@ -46,7 +46,7 @@ pub fn is_empty(pages: &[u64], rows: &[u32], blocks: &[u32], table: &[u64]) -> T
         let p = parts::vacancy_at(pages, rows, blocks, table, e);
         good = good & p.good;
         none = none & p.none;
-        e += 1;
+        e = entries::next_used(table, e + 1, n);
     }
     if good {
         return Truth::Is(none);
@@ -62,14 +62,7 @@ pub fn has_any(pages: &[u64], rows: &[u32], blocks: &[u32], table: &[u64]) -> Tr
         return Truth::Refused(refusal::NOT_LAID_OUT);
     }
     let n = entries::number(table);
-    let mut e: u64 = 0;
-    while e < n {
-        if entry::word_by(table, e) != 0 {
-            return Truth::Is(true);
-        }
-        e += 1;
-    }
-    Truth::Is(false)
+    Truth::Is(entries::next_used(table, 0, n) < n)
 }
 
 // The chunks, empty ones too.
@@ -84,7 +77,7 @@ pub fn allocated_chunk_count(pages: &[u64], rows: &[u32], blocks: &[u32], table:
     let mut e: u64 = 0;
     while e < n {
         sum += (entry::word_by(table, e) != 0) as u64;
-        e += 1;
+        e = entries::next_used(table, e + 1, n);
     }
     Amount::Of(sum)
 }

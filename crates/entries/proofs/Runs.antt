@@ -1,11 +1,12 @@
 -- What lets the entries be read, the first entry for a chunk, and the part of an entry. Assumes nothing.
-use mathlib.Core.Path.{_≡_, sym, _∙_, ap, ap₂}
+use mathlib.Core.Path.{_≡_, refl, sym, _∙_, ap, ap₂}
 use mathlib.Core.List.{List}
-use mathlib.Core.Bool.{Bool, true, cond, _&&_}
-use Prim.Native.Nat.{ℕ, _+_, _≤_, _<_}
+use mathlib.Core.Bool.{Bool, true, false, cond, _&&_}
+use Prim.Native.Nat.{ℕ, _+_, _-_, _≤_, _<_}
 use native.Mathlib.Omega.{arith}
-use lib.Dec.{leb}
-use borrow.Author.Tests.{leb-true, lt-ltb, le-ltb}
+use lib.Dec.{leb, ltb}
+use lib.ListN.{length}
+use borrow.Author.Tests.{leb-true, ltb-true, ltb-false, lt-ltb, le-ltb}
 use Rattle.sums.proofs.Rules.{both}
 use Rattle.document.specs.declared.sizes.Sizes.{Sizes}
 use Rattle.layout.specs.Mem.{Mem}
@@ -24,6 +25,7 @@ pub record Run (t : List ℕ) : Type 0 where
   pub high : headerAt t .s ≤ 25
   pub direct : headerAt t .d ≤ 262144
   pub over : overCount t ≤ 65536
+  pub long : directAt (headerAt t .d) ≤ length t
 
 pub run : (t : List ℕ) → entriesOk t ≡ true → Run t
 run t h =
@@ -35,6 +37,7 @@ run t h =
       high = leb-true (headerAt t .s) 25 (d .1);
       direct = k .direct;
       over = k .over;
+      long = omega (arith, k .long);
     }
 
 pub number-small : (t : List ℕ) (d n : ℕ) → Run t → d ≡ headerAt t .d → n ≡ overCount t → (d ≤ 262144) × (n ≤ 65536)
@@ -68,3 +71,15 @@ module _ (x : Mem) (c : ℕ) (h : Sizes) (e : h ≡ head x) where
 
 pub spot-entry : (x : Mem) (e w : ℕ) (q : Spot) → w ≡ wordBy x e → q ≡ spotBy x w → q ≡ spotBy x (wordBy x e)
 spot-entry x e w q ew h = h ∙ ap (spotBy x) ew
+
+-- ---- entries that are passed over: those from e to i - 1 are absent, and so are the k from i on
+
+pub passed-over : (f : ℕ → ℕ) (e i k : ℕ) → ((j : ℕ) → e ≤ j → j < i → f j ≡ 0) → ((j : ℕ) → j < k → f (i + j) ≡ 0) → (j : ℕ) → e ≤ j → j < i + k → f j ≡ 0
+passed-over f e i k a b j l m = go (ltb j i) refl
+  where
+    go : (y : Bool) → ltb j i ≡ y → f j ≡ 0
+    go true q = a j l (ltb-true j i q)
+    go false q = let n = ltb-false j i q in let z : j ≡ i + (j - i) = omega arith in ap f z ∙ b (j - i) (omega arith)
+
+pub passed-one : (f : ℕ → ℕ) (e i : ℕ) → ((j : ℕ) → e ≤ j → j < i → f j ≡ 0) → f i ≡ 0 → (j : ℕ) → e ≤ j → j < i + 1 → f j ≡ 0
+passed-one f e i a z = passed-over f e i 1 a (λ (j : ℕ) (m : j < 1). let q : i + j ≡ i = omega arith in ap f q ∙ z)

@@ -1,13 +1,14 @@
-// The entries one by one: whether they lie in the table, how many there are, the first for a chunk, and each one's chunk and part of a pool.
+// The entries one by one: whether they lie in the table, how many there are, the first for a chunk, the next with a word, each one's chunk and part of a pool.
 pub mod clip;
 
 ghost use mathlib.Core.Path.{_≡_};
+ghost use mathlib.Core.Logic.{_≢_};
 ghost use mathlib.Core.Bool.{true};
 ghost use mathlib.Core.List.{List};
-ghost use Prim.Native.Nat.{ℕ, _≤_};
+ghost use Prim.Native.Nat.{ℕ, _≤_, _<_};
 ghost use Rattle.layout.specs.Mem.{mem, memOf};
 ghost use Rattle.layout.specs.Sizes.{headerAt};
-ghost use Rattle.layout.specs.Entries.{entries, chunkAt};
+ghost use Rattle.layout.specs.Entries.{entries, chunkAt, wordAt};
 ghost use Rattle.calls.specs.Reading.{spotBy};
 ghost use Rattle.calls.specs.Counts.{entriesOk, wordBy};
 ghost use Rattle.calls.specs.Range.{entryFrom};
@@ -42,6 +43,27 @@ pub fn from(table: &[u64], c: u64) -> u64
         return c;
     }
     h.d + find::over_below(table, h, c)
+}
+
+// The first from e on that has a word, else n. Most entries are absent: eight of them are passed over at once.
+pub fn next_used(table: &[u64], e: u64, n: u64) -> u64
+    requires { ⌜ (entriesOk (now table) ≡ true) × (n ≡ entries (headerAt (now table)) (now table)) × (e ≤ n) ⌝ }
+    ensures { λ r. ⌜ (let t = now (table .entry) in let h = headerAt t in
+        (e ≤ r) × (r ≤ n) × ((i : ℕ) → e ≤ i → i < r → wordAt h t i ≡ 0) × (r < n → wordAt h t r ≢ 0)) ⌝ }
+{
+    let d = head::direct(table);
+    let mut i = e;
+    while i < n {
+        if entry::eight_absent(table, d, i) {
+            i += 8;
+        } else {
+            if entry::word_by(table, i) != 0 {
+                return i;
+            }
+            i += 1;
+        }
+    }
+    i
 }
 
 // The chunk id of entry e.

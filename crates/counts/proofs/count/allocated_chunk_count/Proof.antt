@@ -1,15 +1,17 @@
 -- The entries so far that have a word. Assumes nothing.
 use Rattle.counts.proofs.Promises.{chunk-count}
 use borrow.Author.Needs.{needs}
-use Prim.Native.Nat.{_-_, _≤_}
+use Prim.Native.Nat.{_+_, _-_, _≤_}
 use mathlib.Core.Path.{_≡_, sym, _∙_}
 use native.Mathlib.Omega.{arith}
+use mathlib.Core.Bool.{true}
 use borrow.Author.Tests.{not-true, not-false}
 use Rattle.layout.specs.Mem.{Mem, mem, memOf}
 use Rattle.sums.specs.Ids.{count}
 use Rattle.sums.proofs.Counts.{count-zero}
-use Rattle.calls.specs.Counts.{usedAt}
+use Rattle.calls.specs.Counts.{entriesOk, usedAt}
 use Rattle.entries.proofs.Runs.{run}
+use Rattle.counts.proofs.Runs.{used-past}
 use Rattle.counts.proofs.Totals.{chunks-no, chunk-more, chunk-fits, chunks-is}
 use borrow.Author.Needs.{needs}
 use Rattle.counts.proofs.count.allocated_chunk_count.Statement.{statement}
@@ -23,6 +25,12 @@ abbrev μ-loop : tie.MeasureT-loop
 
 abbrev memory : tie.Start Inv-loop μ-loop → Mem
 memory c = memOf (c .args .pages) (c .args .rows) (c .args .blocks) (c .args .table)
+
+abbrev start : tie.At-loop Inv-loop μ-loop → tie.Start Inv-loop μ-loop
+start l = l .before .before .before .before .before .before .before .before
+
+readable : (l : tie.At-loop Inv-loop μ-loop) → entriesOk (memory (start l) .table) ≡ true
+readable l = sym (l .before .before .before .are .ensures) ∙ not-false _ (l .before .before .if1 .left)
 
 are-requires : tie.Need-are-requires Inv-loop μ-loop
 are-requires c κs = search needs
@@ -45,14 +53,21 @@ cast-sum c = search needs
 add-sum : tie.Need-add-sum Inv-loop μ-loop
 add-sum c = chunk-fits (memory (c .before .before .before .before .before .before .before .before .before .before)) (c .before .before .loop .e) _ (c .before .before .loop .inv .1) _ (c .word-by .ensures) (omega (arith, c .before .loop-test, c .before .before .before .number .ensures .1))
 
-add-e : tie.Need-add-e Inv-loop μ-loop
-add-e c = omega (arith, c .before .loop-test, c .before .before .before .number .ensures .1)
+add-next-used : tie.Need-add-next-used Inv-loop μ-loop
+add-next-used c = omega (arith, c .before .loop-test, c .before .before .before .number .ensures .1)
+
+next-used-requires : tie.Need-next-used-requires Inv-loop μ-loop
+next-used-requires c κs = let l = c .before .before in (readable l, l .before .number .ensures .0, omega (arith, c .before .loop-test))
 
 loop-less : tie.Need-loop-less Inv-loop μ-loop
-loop-less c = omega arith
+loop-less c = omega (arith, c .next-used .ensures .0, c .before .before .loop-test)
 
 loop-again : tie.Need-loop-again Inv-loop μ-loop
-loop-again c = let l = c .before .before .loop in (omega (arith, c .before .loop-test), chunk-more (memory (c .before .before .before .before .before .before .before .before .before .before)) (l .e) _ (l .inv .1) _ (c .word-by .ensures))
+loop-again c =
+    let l = c .before .before .before in
+    let u = c .next-used .ensures in
+    let x = memory (start l) in
+    (u .1, chunk-more x (l .loop .e) _ (l .loop .inv .1) _ (c .before .word-by .ensures) ∙ used-past x (l .loop .e + 1) _ (u .0) (u .2))
 
 returns-2 : tie.Need-returns-2 Inv-loop μ-loop
 returns-2 c = chunk-count (memory (c .before .before .before .before .before .before .before .before .before)) (let l = c .before .loop in chunks-is (memory (c .before .before .before .before .before .before .before .before .before)) _ (l .e) (c .before .before .number .ensures .0) (l .inv .0) (c .loop-test .left) (sym (c .before .before .before .before .are .ensures) ∙ not-false _ (c .before .before .before .if1 .left)) _ (l .inv .1))
@@ -70,7 +85,8 @@ allocated-chunk-count-spec =
     word-by-requires
     cast-sum
     add-sum
-    add-e
+    add-next-used
+    next-used-requires
     loop-less
     loop-again
     returns-2)
