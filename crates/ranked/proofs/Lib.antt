@@ -1,4 +1,3 @@
 pub mod Modes
-pub mod Belows
 pub mod Answers
 pub mod Forms

@@ -7,7 +7,6 @@ ghost use Rattle.layout.specs.Seat.{seatIn};
 ghost use Rattle.ranks.specs.Rank.{rankSeat, rankIfSeat, perhapsOf};
 ghost use Rattle.document.specs.Calls.{rank-of, rank-if, total-count, many, maybe};
 ghost use Rattle.contracts.specs.Does.{Answers};
-use crate::chunk;
 use crate::mode;
 use crate::mode::Form;
 use document::answer::Amount;
@@ -38,7 +37,10 @@ fn rank_at(
     match seat::seat_of(table, c) {
         Seat::Bad => Amount::Refused(refusal::NOT_LAID_OUT),
         Seat::At(w, before) => {
-            chunk::after(before, chunk::below(pages, rows, blocks, table, s, w, o))
+            rank_chunk::after(
+                before,
+                rank_chunk::below(pages, rows, blocks, table, s, w, o),
+            )
         }
     }
 }
@@ -75,7 +77,10 @@ fn rank_if_at(
                     if !b {
                         return Perhaps::Nothing;
                     }
-                    perhaps(chunk::after(before, chunk::below(pages, rows, blocks, table, s, w, o)))
+                    perhaps(rank_chunk::after(
+                        before,
+                        rank_chunk::below(pages, rows, blocks, table, s, w, o),
+                    ))
                 }
             }
         }

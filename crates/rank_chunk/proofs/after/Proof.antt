@@ -2,10 +2,10 @@
 use mathlib.Core.Path.{sym, ap}
 use native.Mathlib.Omega.{arith}
 use Rattle.ranks.specs.Rank.{plusBefore}
-use Rattle.ranked.proofs.Belows.{small-of, plus-of, plus-large}
+use Rattle.rank_chunk.proofs.Belows.{small-of, plus-of, plus-large}
 use borrow.Author.Needs.{needs}
-use Rattle.ranked.proofs.chunk.after.Statement.{statement}
-use Rattle.ranked.proofs.chunk.after.Tie as tie
+use Rattle.rank_chunk.proofs.after.Statement.{statement}
+use Rattle.rank_chunk.proofs.after.Tie as tie
 
 enum-known-within : tie.Need-enum-known-within
 enum-known-within c = search needs

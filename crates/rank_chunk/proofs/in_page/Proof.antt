@@ -1,10 +1,10 @@
 -- One block count, and the words of one block. Assumes nothing.
 use Prim.Native.Nat.{_+_, _/_}
 use native.Mathlib.Omega.{arith}
-use Rattle.ranked.proofs.Belows.{block-small, page-short, page-below}
+use Rattle.rank_chunk.proofs.Belows.{block-small, page-short, page-below}
 use borrow.Author.Needs.{needs}
-use Rattle.ranked.proofs.chunk.in_page.Statement.{statement}
-use Rattle.ranked.proofs.chunk.in_page.Tie as tie
+use Rattle.rank_chunk.proofs.in_page.Statement.{statement}
+use Rattle.rank_chunk.proofs.in_page.Tie as tie
 
 add-i : tie.Need-add-i
 add-i c = search needs

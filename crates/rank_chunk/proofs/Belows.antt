@@ -1,5 +1,5 @@
 -- Members of a chunk below an offset, way by way. Assumes nothing.
-use mathlib.Core.Path.{_≡_, sym, ap, subst, _∙_}
+use mathlib.Core.Path.{_≡_, refl, sym, ap, subst, _∙_}
 use mathlib.Core.List.{List, []}
 use mathlib.Core.Bool.{Bool, cond}
 use Prim.Native.Nat.{ℕ, _+_, _-_, _*_, _/_, _%_, _^_, _≤_, _<_}
@@ -11,16 +11,18 @@ use Rattle.sparse.proofs.Halving.{lower-le}
 use Rattle.dense.specs.Bits.{bitsTo}
 use Rattle.dense.proofs.Counts.{bits-le}
 use Rattle.layout.specs.Mem.{Mem, mem}
+use Rattle.layout.specs.Sizes.{head}
 use Rattle.document.specs.Refusals.{not-laid-out}
 use Rattle.document.specs.declared.answer.Amount.{Amount}
 use Rattle.document.specs.declared.answer.Amount.the-variants.{Of, Refused}
 use Rattle.layout.specs.declared.find.Spot.{Spot}
-use Rattle.layout.specs.declared.find.Spot.the-variants.{Row}
+use Rattle.layout.specs.declared.find.Spot.the-variants.{Nowhere, Row, Page, Bad}
 use Rattle.calls.specs.Reading.{spotBy}
+use Rattle.calls.proofs.Spots.{spot-row, spot-page, offset-block, offset-narrow}
 use Rattle.ranks.specs.Rank.{inPage, belowAt, plusBefore}
-use Rattle.ranked.specs.Small.{Small}
+use Rattle.rank_chunk.specs.Part.{HasBlock}
+use Rattle.rank_chunk.specs.Small.{Small}
 use Rattle.layout.proofs.Lent.{span}
-use Rattle.calls.proofs.Spots.{InRows}
 
 -- ---- in a page
 
@@ -45,15 +47,28 @@ module _ (pages blocks : List ℕ) (a n o : ℕ) where
 
 -- ---- at a part
 
-module _ (x : Mem) (o w : ℕ) where
-  pub below-spot : (q : Spot) → q ≡ spotBy x w → belowAt x o q ≡ belowAt x o (spotBy x w)
-  below-spot q e = ap (belowAt x o) e
+module _ (x : Mem) (o : ℕ) where
+  -- nothing of it is read off the table
+  pub below-same : (q : Spot) → belowAt (mem (x .pages) (x .rows) (x .blocks) []) o q ≡ belowAt x o q
+  below-same Nowhere = refl
+  below-same (Row a n l) = refl
+  below-same (Page a n) = refl
+  below-same Bad = refl
 
-  pub below-row : (a n l k : ℕ) → Row a n l ≡ spotBy x w → InRows (length (x .rows)) a n l → k ≡ lowerOf (take (a + n - a) (drop a (x .rows))) l o → (Of k ≡ belowAt x o (spotBy x w)) × (k < 2 ^ 63)
-  below-row a n l k e i f = (
-    ap Of (f ∙ ap (λ (j : ℕ). lowerOf (take j (drop a (x .rows))) l o) (span a n)) ∙ below-spot (Row a n l) e,
-    (let b = lower-le (take (a + n - a) (drop a (x .rows))) l o in let s = i .short in let t = i .small in omega arith),
-  )
+  pub has-block : (s w : ℕ) → 9 ≤ s → s ≤ 25 → s ≡ head x .s → o < 2 ^ s → HasBlock (length (x .pages)) (length (x .rows)) o (spotBy x w)
+  has-block s w low high e l = go (spotBy x w) refl
+    where
+      go : (q : Spot) → spotBy x w ≡ q → HasBlock (length (x .pages)) (length (x .rows)) o q
+      go Nowhere f = tt
+      go (Row a n k) f = let i = spot-row x w a n k f in (i .inside, i .short, i .small, offset-narrow s o low high l)
+      go (Page a n) f = let i = spot-page x w a n f in (i .inside, offset-block s (head x .s) (length (x .pages)) a n o low high e l i)
+      go Bad f = tt
+
+pub below-row : (x : Mem) (o : ℕ) (q : Spot) (a n l k : ℕ) → q ≡ Row a n l → l ≤ n → n ≤ 1024 → k ≡ lowerOf (take (a + n - a) (drop a (x .rows))) l o → (Of k ≡ belowAt x o q) × (k < 2 ^ 63)
+below-row x o q a n l k e s t f = (
+  ap Of (f ∙ ap (λ (j : ℕ). lowerOf (take j (drop a (x .rows))) l o) (span a n)) ∙ ap (belowAt x o) (sym e),
+  (let b = lower-le (take (a + n - a) (drop a (x .rows))) l o in omega arith),
+)
 
 -- ---- after the chunks before
 

@@ -1,4 +1,4 @@
-// Members of one chunk below an offset, on any memory.
+// Members of one chunk below offset o, on any memory.
 ghost use mathlib.Core.Path.{_≡_};
 ghost use mathlib.Core.List.{[]};
 ghost use Prim.Native.Nat.{_+_, _*_, _/_, _^_, _≤_, _<_};
@@ -7,7 +7,8 @@ ghost use Rattle.layout.specs.Mem.{mem, memOf};
 ghost use Rattle.layout.specs.Sizes.{headerAt};
 ghost use Rattle.calls.specs.Reading.{spotBy};
 ghost use Rattle.ranks.specs.Rank.{inPage, belowAt, plusBefore};
-ghost use Rattle.ranked.specs.Small.{Small};
+ghost use Rattle.rank_chunk.specs.Part.{HasBlock};
+ghost use Rattle.rank_chunk.specs.Small.{Small};
 use dense::block;
 use document::answer::Amount;
 use document::refusal;
@@ -29,7 +30,23 @@ pub fn in_page(pages: &[u64], blocks: &[u32], a: usize, n: usize, o: u64) -> Amo
     Amount::Of((blocks[i] as u64) + block::rank_within(words, o % 512))
 }
 
-// Members of the chunk at word w below offset o.
+// In a part of a pool.
+pub fn below_in(pages: &[u64], rows: &[u32], blocks: &[u32], q: Spot, o: u64) -> Amount
+    requires { ⌜ HasBlock (length (now pages)) (length (now rows)) o q ⌝ }
+    ensures { λ r. ⌜ (r ≡ belowAt (mem (now (pages .entry)) (now (rows .entry)) (now (blocks .entry)) []) o q) × Small r ⌝ }
+{
+    match q {
+        Spot::Nowhere => Amount::Of(0),
+        Spot::Row(a, n, l) => {
+            let e = a + n;
+            Amount::Of(sparse::below(&rows[a..e], l, o as u32) as u64)
+        }
+        Spot::Page(a, n) => in_page(pages, blocks, a, n, o),
+        Spot::Bad => Amount::Refused(refusal::NOT_LAID_OUT),
+    }
+}
+
+// In the chunk at word w.
 pub fn below(
     pages: &[u64],
     rows: &[u32],
@@ -43,15 +60,7 @@ pub fn below(
     ensures { λ r. ⌜ (let x = memOf (pages .entry) (rows .entry) (blocks .entry) (table .entry) in
         (r ≡ belowAt x o (spotBy x w)) × Small r) ⌝ }
 {
-    match find::spot_of(pages, rows, table, w) {
-        Spot::Nowhere => Amount::Of(0),
-        Spot::Row(a, n, l) => {
-            let e = a + n;
-            Amount::Of(sparse::below(&rows[a..e], l, o as u32) as u64)
-        }
-        Spot::Page(a, n) => in_page(pages, blocks, a, n, o),
-        Spot::Bad => Amount::Refused(refusal::NOT_LAID_OUT),
-    }
+    below_in(pages, rows, blocks, find::spot_of(pages, rows, table, w), o)
 }
 
 // The members of the chunks before, and those within; a prefix that no call wrote may be too large.
