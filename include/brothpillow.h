@@ -211,6 +211,27 @@ bp_done bp_mark_ends_by_range(BP_RANGES, BP_SET);
 /* The same where they meet partition k. Refusals: 3, 12. */
 bp_done bp_mark_ends_by_partition(BP_RANGES, uint64_t total, uint64_t slots, uint64_t partitions, const int64_t *bounds, size_t bounds_n, uint64_t k);
 
+/* ---- calls over a list of ids: as many as the shorter of ids and answers has; answers past them stay. A refusal leaves every answer as it was */
+
+#define BP_IDS const int64_t *ids, size_t ids_n
+
+/* answers[i] becomes 1 where ids[i] is a member, else 0. Refusals: 3. */
+bp_done bp_get_all(BP_IDS, uint8_t *answers, size_t answers_n, BP_SET);
+
+/* Of a ranked set: the members below ids[i]; the same for a member, BP_NO_RANK for any other id. Refusals: 3, 5. */
+#define BP_NO_RANK UINT64_MAX
+bp_done bp_rank_all(BP_IDS, uint64_t *answers, size_t answers_n, BP_SET);
+bp_done bp_rank_if_set_all(BP_IDS, uint64_t *answers, size_t answers_n, BP_SET);
+
+/* Inserts ids one after the other, as bp_set_if_new does, up to the first that is refused. taken: how many there were before it, and they stay in the set;
+ * fresh: how many of those were new; refusal: 0, or the refusal of ids[taken]: 3, 4, 6, 7, 8. */
+typedef struct {
+    uint64_t taken;
+    uint64_t fresh;
+    uint64_t refusal;
+} bp_inserted;
+bp_inserted bp_insert_all(BP_IDS, BP_SET_MUT);
+
 /* ---- pure numbers: refuse nothing */
 
 /* The slots that a budget of bytes buys. */

@@ -6,3 +6,4 @@ pub mod Near
 pub mod Turns
 pub mod Inserting
 pub mod Refusals
+pub mod Spares

@@ -2,7 +2,9 @@
 use mathlib.Core.Path.{_≡_, ap, ap₂, subst, _∙_}
 use mathlib.Core.List.{List}
 use lib.IntN.{ℤ}
+use lib.ListN.{take}
 use Rattle.document.specs.State.{State, empty}
+use Rattle.document.specs.Insert.{newAnswer}
 use Rattle.document.specs.Answers.{answer, after, reply}
 use Rattle.document.specs.Union.{Join, unionAnswer, united, leftover}
 use Rattle.document.specs.Plan.{PlansFor}
@@ -13,7 +15,9 @@ use Rattle.layout.specs.Mem.{Mem}
 use Rattle.layout.specs.Meaning.{stateOf}
 use Rattle.layout.specs.Follows.{Follows}
 use Rattle.contracts.specs.Does.{Joins}
-use Rattle.promises.specs.Histories.{Step, set-up, changed, read, planned, marks-set, ends-set, Story, made, then, took, gave, remade, lastBy, last, Stepped, Happened, describedBy, described, RightBy, Kept}
+use Rattle.lists.specs.Lists.{openAnswer, unlessRefused, answered, oneOf}
+use Rattle.lists.specs.Inserts.{inTurn, allNext, afterOf}
+use Rattle.promises.specs.Histories.{Step, set-up, changed, read, planned, marks-set, ends-set, read-all, inserted-all, Story, made, then, took, gave, remade, lastBy, last, Stepped, Happened, describedBy, described, RightBy, Kept}
 use Rattle.promises.proofs.SetUps.{fit, set-up-right, set-up-follows, set-up-state}
 
 -- one step
@@ -31,6 +35,18 @@ onward x q (read k a) w s d = record { follows = w; state = s; right = d .says w
 onward x q (planned S bs a cs) w s d = record { follows = w; state = s; right = subst (λ (p : State). PlansFor p S bs a cs) s (d .says w) }
 onward x q (marks-set rs a us) w s d = record { follows = w; state = s; right = subst (λ (p : State). (a ≡ Done) × (us ≡ marks (hits p) rs)) s (d .says w) }
 onward x q (ends-set los his ms a ns) w s d = record { follows = w; state = s; right = subst (λ (p : State). (a ≡ Done) × (ns ≡ marksIn (hits p) los his ms)) s (d .says w) }
+onward x q (read-all k ids ns a us) w s d = record {
+  follows = w;
+  state = s;
+  right = subst (λ (p : State). (a ≡ openAnswer (p .mode) k) × (us ≡ unlessRefused a (answered (oneOf p k) ids ns) ns)) s (d .says w);
+}
+onward x q (inserted-all ids a y) w s d =
+    let r = d .says w in
+    record {
+      follows = r .follows;
+      state = r .state ∙ ap (λ (p : State). allNext afterOf p (take (a .taken) ids)) s;
+      right = r .said ∙ ap (λ (p : State). inTurn newAnswer afterOf p ids) s;
+    }
 
 pub all-kept : (s : Story) → Happened s → Kept s
 all-kept (made h x y) r =

@@ -9,3 +9,4 @@ pub mod Unions
 pub mod Cases
 pub mod Theorems
 pub mod Ranges
+pub mod Lists

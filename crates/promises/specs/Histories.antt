@@ -3,10 +3,12 @@ use mathlib.Core.Path.{_≡_}
 use mathlib.Core.List.{List}
 use Prim.Native.Nat.{ℕ}
 use lib.IntN.{ℤ}
+use lib.ListN.{take}
 use Rattle.document.specs.Sizes.{InRange}
 use Rattle.document.specs.State.{State, empty}
 use Rattle.document.specs.Refusals.{outside-sizes, too-short}
 use Rattle.document.specs.Calls.{Call, Ask, Said}
+use Rattle.document.specs.Insert.{newAnswer}
 use Rattle.document.specs.Answers.{answer, after, reply}
 use Rattle.document.specs.Union.{Join, unionAnswer, united, leftover}
 use Rattle.document.specs.Plan.{PlansFor}
@@ -23,8 +25,11 @@ use Rattle.layout.specs.Follows.{Follows}
 use Rattle.contracts.specs.Does.{Does, Answers, SetsUp, Joins}
 use Rattle.cuts.specs.Promise.{Plans}
 use Rattle.range_list.specs.Marks.{MarksByRange, EndsByRange}
+use Rattle.lists.specs.Lists.{ListAsk, openAnswer, unlessRefused, answered, oneOf, AnswersAll}
+use Rattle.lists.specs.Inserts.{inTurn, allNext, afterOf, InsertsAll}
+use Rattle.lists.specs.declared.insert.Inserted.{Inserted}
 
--- a call on one set, its answer, and what it leaves of the set, of boundaries or of a range list; a reading call and its answer
+-- a call on one set, its answer, and what it leaves of the set, of boundaries, of a range list or of a list of answers; a reading call and its answer
 pub data Step : Type 0 where
   set-up : Sizes → Outcome → Mem → Step
   changed : Call → Said → Mem → Step
@@ -32,6 +37,8 @@ pub data Step : Type 0 where
   planned : ℕ → List ℤ → Planning → List ℤ → Step
   marks-set : List Range → Outcome → List Range → Step
   ends-set : List ℤ → List ℤ → List ℕ → Outcome → List ℕ → Step
+  read-all : ListAsk → List ℤ → List ℕ → Outcome → List ℕ → Step
+  inserted-all : List ℤ → Inserted → Mem → Step
 
 -- one set's history
 pub data Story : Type 0 where
@@ -52,6 +59,8 @@ lastBy x (read k a) = x
 lastBy x (planned S bs a cs) = x
 lastBy x (marks-set rs a us) = x
 lastBy x (ends-set los his ms a ns) = x
+lastBy x (read-all k ids ns a us) = x
+lastBy x (inserted-all ids a y) = y
 
 abbrev pub last : Story → Mem
 last (made h x y) = y
@@ -67,6 +76,8 @@ Stepped x (read k a) = Answers x k a
 Stepped x (planned S bs a cs) = Plans x S bs a cs
 Stepped x (marks-set rs a us) = MarksByRange x rs a us
 Stepped x (ends-set los his ms a ns) = EndsByRange x los his ms a ns
+Stepped x (read-all k ids ns a us) = AnswersAll x k ids ns a us
+Stepped x (inserted-all ids a y) = InsertsAll x ids a y
 
 abbrev pub Happened : Story → Type 0
 Happened (made h x y) = SetsUp h x Done y
@@ -88,6 +99,8 @@ describedBy q (read k a) = q
 describedBy q (planned S bs a cs) = q
 describedBy q (marks-set rs a us) = q
 describedBy q (ends-set los his ms a ns) = q
+describedBy q (read-all k ids ns a us) = q
+describedBy q (inserted-all ids a y) = allNext afterOf q (take (a .taken) ids)
 
 -- the set after it
 abbrev pub described : Story → State
@@ -110,6 +123,8 @@ RightBy x q (read k a) = a ≡ reply q k
 RightBy x q (planned S bs a cs) = PlansFor q S bs a cs
 RightBy x q (marks-set rs a us) = (a ≡ Done) × (us ≡ marks (hits q) rs)
 RightBy x q (ends-set los his ms a ns) = (a ≡ Done) × (ns ≡ marksIn (hits q) los his ms)
+RightBy x q (read-all k ids ns a us) = (a ≡ openAnswer (q .mode) k) × (us ≡ unlessRefused a (answered (oneOf q k) ids ns) ns)
+RightBy x q (inserted-all ids a y) = a ≡ inTurn newAnswer afterOf q ids
 
 abbrev pub AllRight : Story → Type 0
 AllRight (made h x y) = Unit

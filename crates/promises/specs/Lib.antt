@@ -2,3 +2,4 @@ pub mod Histories
 pub mod Cuts
 pub mod Listings
 pub mod Cases
+pub mod Lists

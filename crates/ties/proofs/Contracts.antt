@@ -21,6 +21,9 @@ use Rattle.document.specs.Union as union
 use Rattle.contracts.specs.Does.{Does, Answers, SetsUp, Joins}
 use Rattle.cuts.specs.Promise.{Plans}
 use Rattle.range_list.specs.Marks.{MarksByRange, MarksByPartition, EndsByRange, EndsByPartition}
+use Rattle.lists.specs.Lists as listwise
+use Rattle.lists.specs.Lists.{AnswersAll}
+use Rattle.lists.specs.Inserts.{InsertsAll}
 use Rattle.ties.proofs.Ensures.{four, two, Ensures}
 use Rattle.idset.proofs.setup.set_up as set_up
 use Rattle.inserts.proofs.insert.set_if_new as set_if_new
@@ -53,6 +56,10 @@ use Rattle.range_list.proofs.list.mark_by_range as mark_by_range
 use Rattle.range_list.proofs.list.mark_by_partition as mark_by_partition
 use Rattle.range_list.proofs.ends.mark_ends_by_range as mark_ends_by_range
 use Rattle.range_list.proofs.ends.mark_ends_by_partition as mark_ends_by_partition
+use Rattle.lists.proofs.read.get_all as get_all
+use Rattle.lists.proofs.read.rank_all as rank_all
+use Rattle.lists.proofs.read.rank_if_set_all as rank_if_set_all
+use Rattle.lists.proofs.insert.insert_all as insert_all
 use Rattle.numbers.proofs.budget.slots_for_budget as slots_for_budget
 use Rattle.numbers.proofs.budget.file_bounded_max_id as file_bounded_max_id
 use Rattle.idset.proofs.setup.set_up.Symbol as set_up-at
@@ -86,6 +93,10 @@ use Rattle.range_list.proofs.list.mark_by_range.Symbol as mark_by_range-at
 use Rattle.range_list.proofs.list.mark_by_partition.Symbol as mark_by_partition-at
 use Rattle.range_list.proofs.ends.mark_ends_by_range.Symbol as mark_ends_by_range-at
 use Rattle.range_list.proofs.ends.mark_ends_by_partition.Symbol as mark_ends_by_partition-at
+use Rattle.lists.proofs.read.get_all.Symbol as get_all-at
+use Rattle.lists.proofs.read.rank_all.Symbol as rank_all-at
+use Rattle.lists.proofs.read.rank_if_set_all.Symbol as rank_if_set_all-at
+use Rattle.lists.proofs.insert.insert_all.Symbol as insert_all-at
 use Rattle.numbers.proofs.budget.slots_for_budget.Symbol as slots_for_budget-at
 use Rattle.numbers.proofs.budget.file_bounded_max_id.Symbol as file_bounded_max_id-at
 use Rattle.idset.proofs.setup.set_up.Met as set_up-met
@@ -119,6 +130,10 @@ use Rattle.range_list.proofs.list.mark_by_range.Met as mark_by_range-met
 use Rattle.range_list.proofs.list.mark_by_partition.Met as mark_by_partition-met
 use Rattle.range_list.proofs.ends.mark_ends_by_range.Met as mark_ends_by_range-met
 use Rattle.range_list.proofs.ends.mark_ends_by_partition.Met as mark_ends_by_partition-met
+use Rattle.lists.proofs.read.get_all.Met as get_all-met
+use Rattle.lists.proofs.read.rank_all.Met as rank_all-met
+use Rattle.lists.proofs.read.rank_if_set_all.Met as rank_if_set_all-met
+use Rattle.lists.proofs.insert.insert_all.Met as insert_all-met
 use Rattle.numbers.proofs.budget.slots_for_budget.Met as slots_for_budget-met
 use Rattle.numbers.proofs.budget.file_bounded_max_id.Met as file_bounded_max_id-met
 
@@ -216,6 +231,18 @@ module _ {M : Type 1} (𝓤 : URA M) (H : Heap 𝓤) where
 
     pub mark-ends-by-partition-is : mark_ends_by_partition.spec 𝓤 H A m run ≡ Ensures 𝓤 H A mark_ends_by_partition.ended (λ κs a r e. EndsByPartition (idsAnswer (a .1 .1 .1 .0) (now (a .1 .1 .1 .1 .0)) (a .1 .1 .1 .1 .1 .0)) (now (a .0)) (now (a .1 .0)) (now (a .1 .1 .0)) r (now (e .1 .1 .0)))
     mark-ends-by-partition-is = refl
+
+    pub get-all-is : get_all.spec 𝓤 H A m run ≡ Ensures 𝓤 H A get_all.ended (λ κs a r e. AnswersAll (four (a .1 .1)) listwise.get-all (now (a .0)) (now (a .1 .0)) r (now (e .1 .0)))
+    get-all-is = refl
+
+    pub rank-all-is : rank_all.spec 𝓤 H A m run ≡ Ensures 𝓤 H A rank_all.ended (λ κs a r e. AnswersAll (four (a .1 .1)) listwise.rank-all (now (a .0)) (now (a .1 .0)) r (now (e .1 .0)))
+    rank-all-is = refl
+
+    pub rank-if-set-all-is : rank_if_set_all.spec 𝓤 H A m run ≡ Ensures 𝓤 H A rank_if_set_all.ended (λ κs a r e. AnswersAll (four (a .1 .1)) listwise.rank-if-all (now (a .0)) (now (a .1 .0)) r (now (e .1 .0)))
+    rank-if-set-all-is = refl
+
+    pub insert-all-is : insert_all.spec 𝓤 H A m run ≡ Ensures 𝓤 H A insert_all.ended (λ κs a r e. InsertsAll (four (a .1)) (now (a .0)) r (four (e .1)))
+    insert-all-is = refl
 
     pub slots-for-budget-is : slots_for_budget.spec 𝓤 H A m run ≡ Ensures 𝓤 H A slots_for_budget.ended (λ κs a r e. r ≡ slotsForBudget (a .0))
     slots-for-budget-is = refl
@@ -347,6 +374,22 @@ module _ {M : Type 1} (𝓤 : URA M) (H : Heap 𝓤) where
     pub mark-ends-by-partition-meets : Meets 𝓤 H (𝓖 .A) mark_ends_by_partition.signature (𝓡 .run mark_ends_by_partition-at.routine)
         (Ensures 𝓤 H (𝓖 .A) mark_ends_by_partition.ended (λ κs a r e. EndsByPartition (idsAnswer (a .1 .1 .1 .0) (now (a .1 .1 .1 .1 .0)) (a .1 .1 .1 .1 .1 .0)) (now (a .0)) (now (a .1 .0)) (now (a .1 .1 .0)) r (now (e .1 .1 .0))))
     mark-ends-by-partition-meets = mark_ends_by_partition-met.met 𝓤 H 𝓜 𝓖 𝓡
+
+    pub get-all-meets : Meets 𝓤 H (𝓖 .A) get_all.signature (𝓡 .run get_all-at.routine)
+        (Ensures 𝓤 H (𝓖 .A) get_all.ended (λ κs a r e. AnswersAll (four (a .1 .1)) listwise.get-all (now (a .0)) (now (a .1 .0)) r (now (e .1 .0))))
+    get-all-meets = get_all-met.met 𝓤 H 𝓜 𝓖 𝓡
+
+    pub rank-all-meets : Meets 𝓤 H (𝓖 .A) rank_all.signature (𝓡 .run rank_all-at.routine)
+        (Ensures 𝓤 H (𝓖 .A) rank_all.ended (λ κs a r e. AnswersAll (four (a .1 .1)) listwise.rank-all (now (a .0)) (now (a .1 .0)) r (now (e .1 .0))))
+    rank-all-meets = rank_all-met.met 𝓤 H 𝓜 𝓖 𝓡
+
+    pub rank-if-set-all-meets : Meets 𝓤 H (𝓖 .A) rank_if_set_all.signature (𝓡 .run rank_if_set_all-at.routine)
+        (Ensures 𝓤 H (𝓖 .A) rank_if_set_all.ended (λ κs a r e. AnswersAll (four (a .1 .1)) listwise.rank-if-all (now (a .0)) (now (a .1 .0)) r (now (e .1 .0))))
+    rank-if-set-all-meets = rank_if_set_all-met.met 𝓤 H 𝓜 𝓖 𝓡
+
+    pub insert-all-meets : Meets 𝓤 H (𝓖 .A) insert_all.signature (𝓡 .run insert_all-at.routine)
+        (Ensures 𝓤 H (𝓖 .A) insert_all.ended (λ κs a r e. InsertsAll (four (a .1)) (now (a .0)) r (four (e .1))))
+    insert-all-meets = insert_all-met.met 𝓤 H 𝓜 𝓖 𝓡
 
     pub slots-for-budget-meets : Meets 𝓤 H (𝓖 .A) slots_for_budget.signature (𝓡 .run slots_for_budget-at.routine)
         (Ensures 𝓤 H (𝓖 .A) slots_for_budget.ended (λ κs a r e. r ≡ slotsForBudget (a .0)))

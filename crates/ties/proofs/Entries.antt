@@ -26,6 +26,9 @@ use Rattle.document.specs.Union as union
 use Rattle.contracts.specs.Does.{Does, Answers, SetsUp, Joins}
 use Rattle.cuts.specs.Promise.{Plans}
 use Rattle.range_list.specs.Marks.{EndsByRange, EndsByPartition}
+use Rattle.lists.specs.Lists as listwise
+use Rattle.lists.specs.Lists.{AnswersAll}
+use Rattle.lists.specs.Inserts.{InsertsAll}
 use Rattle.codes.specs.Codes.{Coded, outcomeCode, truthCode, amountCode, perhapsCode, planningCode, spannedCode, ranksCode, planIn, spanIn}
 use Rattle.ties.proofs.Ensures.{four, two, Ensures}
 use Rattle.exports.proofs.change.bp_set_up as bp_set_up
@@ -56,6 +59,10 @@ use Rattle.exports.proofs.partition.«bp_in_partition» as bp_within
 use Rattle.exports.proofs.partition.bp_range_meets as bp_range_meets
 use Rattle.exports.proofs.ranges.bp_mark_ends_by_range as bp_mark_ends_by_range
 use Rattle.exports.proofs.ranges.bp_mark_ends_by_partition as bp_mark_ends_by_partition
+use Rattle.exports.proofs.list.bp_get_all as bp_get_all
+use Rattle.exports.proofs.list.bp_rank_all as bp_rank_all
+use Rattle.exports.proofs.list.bp_rank_if_set_all as bp_rank_if_set_all
+use Rattle.exports.proofs.list.bp_insert_all as bp_insert_all
 use Rattle.exports.proofs.number.bp_slots_for_budget as bp_slots_for_budget
 use Rattle.exports.proofs.number.bp_file_bounded_max_id as bp_file_bounded_max_id
 use Rattle.exports.proofs.change.bp_set_up.Symbol as bp_set_up-at
@@ -86,6 +93,10 @@ use Rattle.exports.proofs.partition.«bp_in_partition».Symbol as bp_within-at
 use Rattle.exports.proofs.partition.bp_range_meets.Symbol as bp_range_meets-at
 use Rattle.exports.proofs.ranges.bp_mark_ends_by_range.Symbol as bp_mark_ends_by_range-at
 use Rattle.exports.proofs.ranges.bp_mark_ends_by_partition.Symbol as bp_mark_ends_by_partition-at
+use Rattle.exports.proofs.list.bp_get_all.Symbol as bp_get_all-at
+use Rattle.exports.proofs.list.bp_rank_all.Symbol as bp_rank_all-at
+use Rattle.exports.proofs.list.bp_rank_if_set_all.Symbol as bp_rank_if_set_all-at
+use Rattle.exports.proofs.list.bp_insert_all.Symbol as bp_insert_all-at
 use Rattle.exports.proofs.number.bp_slots_for_budget.Symbol as bp_slots_for_budget-at
 use Rattle.exports.proofs.number.bp_file_bounded_max_id.Symbol as bp_file_bounded_max_id-at
 use Rattle.exports.proofs.change.bp_set_up.Met as bp_set_up-met
@@ -116,6 +127,10 @@ use Rattle.exports.proofs.partition.«bp_in_partition».Met as bp_within-met
 use Rattle.exports.proofs.partition.bp_range_meets.Met as bp_range_meets-met
 use Rattle.exports.proofs.ranges.bp_mark_ends_by_range.Met as bp_mark_ends_by_range-met
 use Rattle.exports.proofs.ranges.bp_mark_ends_by_partition.Met as bp_mark_ends_by_partition-met
+use Rattle.exports.proofs.list.bp_get_all.Met as bp_get_all-met
+use Rattle.exports.proofs.list.bp_rank_all.Met as bp_rank_all-met
+use Rattle.exports.proofs.list.bp_rank_if_set_all.Met as bp_rank_if_set_all-met
+use Rattle.exports.proofs.list.bp_insert_all.Met as bp_insert_all-met
 use Rattle.exports.proofs.number.bp_slots_for_budget.Met as bp_slots_for_budget-met
 use Rattle.exports.proofs.number.bp_file_bounded_max_id.Met as bp_file_bounded_max_id-met
 
@@ -204,6 +219,18 @@ module _ {M : Type 1} (𝓤 : URA M) (H : Heap 𝓤) where
 
     pub bp-mark-ends-by-partition-is : bp_mark_ends_by_partition.spec 𝓤 H A m run ≡ Ensures 𝓤 H A bp_mark_ends_by_partition.ended (λ κs a r e. Coded outcomeCode (λ (t : Outcome). EndsByPartition (idsAnswer (planIn (a .1 .1 .1 .0) (a .1 .1 .1 .1 .0) (a .1 .1 .1 .1 .1 .0)) (now (a .1 .1 .1 .1 .1 .1 .0)) (a .1 .1 .1 .1 .1 .1 .1 .0)) (now (a .0)) (now (a .1 .0)) (now (a .1 .1 .0)) t (now (e .1 .1 .0))) r)
     bp-mark-ends-by-partition-is = refl
+
+    pub bp-get-all-is : bp_get_all.spec 𝓤 H A m run ≡ Ensures 𝓤 H A bp_get_all.ended (λ κs a r e. Coded outcomeCode (λ (t : Outcome). AnswersAll (four (a .1 .1)) listwise.get-all (now (a .0)) (now (a .1 .0)) t (now (e .1 .0))) r)
+    bp-get-all-is = refl
+
+    pub bp-rank-all-is : bp_rank_all.spec 𝓤 H A m run ≡ Ensures 𝓤 H A bp_rank_all.ended (λ κs a r e. Coded outcomeCode (λ (t : Outcome). AnswersAll (four (a .1 .1)) listwise.rank-all (now (a .0)) (now (a .1 .0)) t (now (e .1 .0))) r)
+    bp-rank-all-is = refl
+
+    pub bp-rank-if-set-all-is : bp_rank_if_set_all.spec 𝓤 H A m run ≡ Ensures 𝓤 H A bp_rank_if_set_all.ended (λ κs a r e. Coded outcomeCode (λ (t : Outcome). AnswersAll (four (a .1 .1)) listwise.rank-if-all (now (a .0)) (now (a .1 .0)) t (now (e .1 .0))) r)
+    bp-rank-if-set-all-is = refl
+
+    pub bp-insert-all-is : bp_insert_all.spec 𝓤 H A m run ≡ Ensures 𝓤 H A bp_insert_all.ended (λ κs a r e. InsertsAll (four (a .1)) (now (a .0)) r (four (e .1)))
+    bp-insert-all-is = refl
 
     pub bp-slots-for-budget-is : bp_slots_for_budget.spec 𝓤 H A m run ≡ Ensures 𝓤 H A bp_slots_for_budget.ended (λ κs a r e. r ≡ slotsForBudget (a .0))
     bp-slots-for-budget-is = refl
@@ -323,6 +350,22 @@ module _ {M : Type 1} (𝓤 : URA M) (H : Heap 𝓤) where
     pub bp-mark-ends-by-partition-meets : Meets 𝓤 H (𝓖 .A) bp_mark_ends_by_partition.signature (𝓡 .run bp_mark_ends_by_partition-at.routine)
         (Ensures 𝓤 H (𝓖 .A) bp_mark_ends_by_partition.ended (λ κs a r e. Coded outcomeCode (λ (t : Outcome). EndsByPartition (idsAnswer (planIn (a .1 .1 .1 .0) (a .1 .1 .1 .1 .0) (a .1 .1 .1 .1 .1 .0)) (now (a .1 .1 .1 .1 .1 .1 .0)) (a .1 .1 .1 .1 .1 .1 .1 .0)) (now (a .0)) (now (a .1 .0)) (now (a .1 .1 .0)) t (now (e .1 .1 .0))) r))
     bp-mark-ends-by-partition-meets = bp_mark_ends_by_partition-met.met 𝓤 H 𝓜 𝓖 𝓡
+
+    pub bp-get-all-meets : Meets 𝓤 H (𝓖 .A) bp_get_all.signature (𝓡 .run bp_get_all-at.routine)
+        (Ensures 𝓤 H (𝓖 .A) bp_get_all.ended (λ κs a r e. Coded outcomeCode (λ (t : Outcome). AnswersAll (four (a .1 .1)) listwise.get-all (now (a .0)) (now (a .1 .0)) t (now (e .1 .0))) r))
+    bp-get-all-meets = bp_get_all-met.met 𝓤 H 𝓜 𝓖 𝓡
+
+    pub bp-rank-all-meets : Meets 𝓤 H (𝓖 .A) bp_rank_all.signature (𝓡 .run bp_rank_all-at.routine)
+        (Ensures 𝓤 H (𝓖 .A) bp_rank_all.ended (λ κs a r e. Coded outcomeCode (λ (t : Outcome). AnswersAll (four (a .1 .1)) listwise.rank-all (now (a .0)) (now (a .1 .0)) t (now (e .1 .0))) r))
+    bp-rank-all-meets = bp_rank_all-met.met 𝓤 H 𝓜 𝓖 𝓡
+
+    pub bp-rank-if-set-all-meets : Meets 𝓤 H (𝓖 .A) bp_rank_if_set_all.signature (𝓡 .run bp_rank_if_set_all-at.routine)
+        (Ensures 𝓤 H (𝓖 .A) bp_rank_if_set_all.ended (λ κs a r e. Coded outcomeCode (λ (t : Outcome). AnswersAll (four (a .1 .1)) listwise.rank-if-all (now (a .0)) (now (a .1 .0)) t (now (e .1 .0))) r))
+    bp-rank-if-set-all-meets = bp_rank_if_set_all-met.met 𝓤 H 𝓜 𝓖 𝓡
+
+    pub bp-insert-all-meets : Meets 𝓤 H (𝓖 .A) bp_insert_all.signature (𝓡 .run bp_insert_all-at.routine)
+        (Ensures 𝓤 H (𝓖 .A) bp_insert_all.ended (λ κs a r e. InsertsAll (four (a .1)) (now (a .0)) r (four (e .1))))
+    bp-insert-all-meets = bp_insert_all-met.met 𝓤 H 𝓜 𝓖 𝓡
 
     pub bp-slots-for-budget-meets : Meets 𝓤 H (𝓖 .A) bp_slots_for_budget.signature (𝓡 .run bp_slots_for_budget-at.routine)
         (Ensures 𝓤 H (𝓖 .A) bp_slots_for_budget.ended (λ κs a r e. r ≡ slotsForBudget (a .0)))
