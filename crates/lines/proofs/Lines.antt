@@ -18,7 +18,7 @@ use Rattle.lines.specs.declared.Number.the-variants as number
 
 -- ---- by what is kept
 
-pub by-kept : {A : Type 0} (f : Line → A) {l k : Line} {r : A} → l ≡ k → r ≡ f k → r ≡ f l
+pub by-kept : {K A : Type 0} (f : K → A) {l k : K} {r : A} → l ≡ k → r ≡ f k → r ≡ f l
 by-kept f p e = e ∙ ap f (sym p)
 
 -- ---- one byte more, at the end

@@ -1,16 +1,22 @@
 -- A law for each way through the reader's functions. Assumes nothing.
 use mathlib.Core.Path.{_≡_, refl, sym, _∙_, ap, subst}
-use mathlib.Core.Bool.{Bool, true, false}
+use mathlib.Core.Bool.{Bool, true, false, cond, _&&_}
+use mathlib.Core.List.{List, [], _∷_}
 use Prim.Native.Nat.{ℕ, zero, suc, _+_, _-_, _*_, _/_, _^_, _≤_, _<_}
 use native.Mathlib.Omega.{arith}
+use lib.Dec.{leb, ltb, eqb}
 use lib.IntN.{ℤ, pos, negsuc, negℤ, _-ℤ_, +ℤ-idl}
+use lib.ListN.{length}
 use mir.Syntax.{w64}
 use mir.Val.{SFits, ofZ, toZ}
 use mir.Facts.{toZ-ofZ, toZ-pos}
-use borrow.Author.Tests.{le-leb, lt-leb, lt-ltb, le-ltb, eq-eqb, ne-eqb}
+use borrow.Author.Tests.{leb-true, ltb-true, le-leb, lt-leb, lt-ltb, le-ltb, eq-eqb, ne-eqb}
+use Rattle.sums.proofs.Rules.{both}
+use Rattle.lines.specs.Line.{allDigits, value, positive, negative, idLine}
 use Rattle.lines.specs.Reader.{digitOn, next, idIn}
 use Rattle.lines.specs.declared.Line.{Line}
 use Rattle.lines.specs.declared.Line.the-variants.{Empty, Digits, Bad}
+use Rattle.lines.specs.declared.Id.{Id}
 use Rattle.lines.specs.declared.Id.the-variants as id
 
 -- ---- one more digit
@@ -97,3 +103,39 @@ module _ (n v : ℕ) where
 
     pub id-positive : v < 9223372036854775808 → id.Of (toZ w64 v) ≡ idIn (Digits false n v)
     id-positive h = ap id.Of (toZ-pos w64 h) ∙ sym (rw (le-leb 1 n lo, le-leb n 19 hi, lt-ltb v (2 ^ 63) h))
+
+-- ---- what a line says as an id fits an i64
+
+said : (t : Bool) (v z : ℤ) → cond t (id.Of v) id.Bad ≡ id.Of z → (t ≡ true) × (v ≡ z)
+said true v z e = (refl, cc)
+said false v z e = absurd (let y : _≡_ {A = ℕ} 0 1 = cc in omega arith)
+
+-- the last of four tests
+last-of : (p q r s : Bool) → (p && (q && (r && s))) ≡ true → s ≡ true
+last-of p q r s h = both r s (both q (r && s) (both p (q && (r && s)) h .1) .1) .1
+
+plain-fits : (v : ℕ) → v < 2 ^ 63 → SFits w64 (pos v)
+plain-fits v h = record { sfits = omega arith }
+
+positive-fits : (bs : List ℕ) (z : ℤ) → positive bs ≡ id.Of z → SFits w64 z
+unfolding positive
+positive-fits bs z e =
+    let p = said _ (pos (value bs)) z e in
+    let h : value bs < 2 ^ 63 = ltb-true (value bs) (2 ^ 63) (last-of (allDigits bs) (leb 1 (length bs)) (leb (length bs) 19) (ltb (value bs) (2 ^ 63)) (p .0)) in
+    subst (SFits w64) (p .1) (plain-fits (value bs) h)
+
+negative-fits : (bs : List ℕ) (z : ℤ) → negative bs ≡ id.Of z → SFits w64 z
+unfolding negative
+negative-fits bs z e =
+    let p = said _ (negℤ (pos (value bs))) z e in
+    let h : value bs ≤ 2 ^ 63 = leb-true (value bs) (2 ^ 63) (last-of (allDigits bs) (leb 1 (length bs)) (leb (length bs) 19) (leb (value bs) (2 ^ 63)) (p .0)) in
+    subst (SFits w64) (p .1) (neg-fits (value bs) h)
+
+either-fits : (t : Bool) (b : ℕ) (bs : List ℕ) (z : ℤ) → cond t (negative bs) (positive (b ∷ bs)) ≡ id.Of z → SFits w64 z
+either-fits true b bs z e = negative-fits bs z e
+either-fits false b bs z e = positive-fits (b ∷ bs) z e
+
+pub id-fits : (bs : List ℕ) (z : ℤ) → idLine bs ≡ id.Of z → SFits w64 z
+unfolding idLine
+id-fits [] z e = absurd (let y : _≡_ {A = ℕ} 0 1 = cc in omega arith)
+id-fits (b ∷ bs) z e = either-fits (eqb b 45) b bs z e

@@ -1,0 +1,5 @@
+pub mod Ways
+pub mod Parts
+pub mod Inputs
+pub mod Same
+pub mod Cases
