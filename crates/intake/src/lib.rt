@@ -1,0 +1,2 @@
+// The program's input goes into a set, part by part.
+pub mod input;
