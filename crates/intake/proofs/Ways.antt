@@ -34,10 +34,10 @@ begin-way x y p e = ap (λ (i : Input). fed i y) p ∙ ap begun e
 -- ---- an insert
 
 -- a call's answer and memory, taken apart
-said-is : {o k : Outcome} {x y : Mem} → ran (that o) x ≡ ran (that k) y → o ≡ k
+pub said-is : {o k : Outcome} {x y : Mem} → ran (that o) x ≡ ran (that k) y → o ≡ k
 said-is {o} {k} {x} {y} e = let p : that o ≡ that k = ap (λ (r : Ran). r .answer) e in cc
 
-left-is : {o k : Said} {x y : Mem} → ran o x ≡ ran k y → x ≡ y
+pub left-is : {o k : Said} {x y : Mem} → ran o x ≡ ran k y → x ≡ y
 left-is e = ap (λ (r : Ran). r .after) e
 
 put-says : (x y : Mem) (z : ℤ) (n s : ℕ) {o : Outcome} {r : Input} → ran (that o) y ≡ byDone (insertBy x z) → r ≡ goOn o n s → fed r y ≡ perform putBy x (Insert z n s)

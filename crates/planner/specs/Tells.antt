@@ -1,0 +1,85 @@
+-- What the program says: on any memory, and in document 01's words for all of its input.
+use mathlib.Core.Path.{_≡_}
+use mathlib.Core.Bool.{true}
+use mathlib.Core.List.{List}
+use Prim.Native.Nat.{ℕ}
+use lib.IntN.{ℤ}
+use Rattle.document.specs.State.{State, empty}
+use Rattle.document.specs.Answers.{inMode}
+use Rattle.document.specs.Plan.{PlansFor}
+use Rattle.document.specs.declared.answer.Outcome.{Outcome}
+use Rattle.document.specs.declared.answer.Outcome.the-variants as outcome
+use Rattle.document.specs.declared.plan.Planning.{Planning}
+use Rattle.document.specs.declared.plan.Planning.the-variants as planning
+use Rattle.layout.specs.Mem.{Mem}
+use Rattle.layout.specs.SetUp.{Did, setUpBy}
+use Rattle.ranks.specs.Form.{rankUpBy}
+use Rattle.cuts.specs.Plan.{Cut, planBy}
+use Rattle.program.specs.Turns.{Run, runAll}
+use Rattle.program.specs.Reader.{feedParts, finished}
+use Rattle.program.specs.declared.Ended.{Ended}
+use Rattle.program.specs.declared.Ended.the-variants as ended
+use Rattle.program.specs.declared.Said.{Said}
+use Rattle.program.specs.declared.Said.the-variants as said
+use Rattle.intake.specs.Puts.{sizes, putBy, putIn, begun}
+
+-- the plan, or planning's refusal
+abbrev pub sayPlan : Planning → Said
+sayPlan (planning.Made p) = said.Plan p
+sayPlan (planning.Refused c) = said.Refused c
+
+-- ---- on any memory
+
+-- what is said, memory and boundaries after it
+pub record Told : Type 0 where
+  pub says : Said
+  pub left : Mem
+  pub bounds : List ℤ
+
+abbrev pub told : Said → Mem → List ℤ → Told
+told r y cs = record { says = r; left = y; bounds = cs }
+
+abbrev pub cutSaid : Mem → Cut → Told
+cutSaid y k = told (sayPlan (k .answer)) y (k .bounds)
+
+-- planning for S after ranking, unless that is refused
+abbrev pub rankedSaid : Outcome → Mem → ℕ → List ℤ → Told
+rankedSaid outcome.Done y s bs = cutSaid y (planBy y s bs)
+rankedSaid (outcome.Refused c) y s bs = told (said.Refused c) y bs
+
+abbrev pub planSaid : Did → ℕ → List ℤ → Told
+planSaid d s bs = rankedSaid (d .answer) (d .after) s bs
+
+abbrev pub endSaid : Ended → Mem → List ℤ → Told
+endSaid (ended.Whole s) x bs = planSaid (rankUpBy x) s bs
+endSaid (ended.Bad n) x bs = told (said.Bad n) x bs
+endSaid (ended.Refused c) x bs = told (said.Refused c) x bs
+
+abbrev pub runSaid : Run Mem → List ℤ → Told
+runSaid e bs = endSaid (e .ended) (e .left) bs
+
+-- the program on memory x: set-up, the parts of the input in turn, and the end
+abbrev pub programTold : Mem → List (List ℕ) → List ℤ → Told
+programTold x parts bs = runSaid (finished putBy (feedParts putBy (begun (setUpBy sizes x)) parts)) bs
+
+-- ---- in document 01's words
+
+-- planning of the set q, once ranked, for S: it says r and takes boundaries bs to cs
+pub record SaysPlan (q : State) (S : ℕ) (bs : List ℤ) (r : Said) (cs : List ℤ) : Type 0 where
+  pub answer : Planning
+  pub plans : PlansFor (inMode q true) S bs answer cs
+  pub said : r ≡ sayPlan answer
+
+-- planning comes last, and only where no fault was met before
+abbrev pub Says : Ended → State → List ℤ → Said → List ℤ → Type 0
+Says (ended.Whole s) q bs r cs = SaysPlan q s bs r cs
+Says (ended.Bad n) q bs r cs = (r ≡ said.Bad n) × (cs ≡ bs)
+Says (ended.Refused c) q bs r cs = (r ≡ said.Refused c) × (cs ≡ bs)
+
+-- the input goes, in turn, into an empty set of the program's sizes
+abbrev pub programRun : List ℕ → Run State
+programRun input = runAll putIn (empty sizes) input
+
+-- the program on all of its input
+abbrev pub ProgramSays : List ℕ → List ℤ → Said → List ℤ → Type 0
+ProgramSays input bs r cs = Says (programRun input .ended) (programRun input .left) bs r cs
