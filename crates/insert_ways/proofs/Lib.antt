@@ -1,3 +1,4 @@
 pub mod Marks
 pub mod Chunks
 pub mod Ways
+pub mod Appends

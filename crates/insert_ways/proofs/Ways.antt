@@ -1,17 +1,17 @@
--- The short way is the whole way where it answers, and nothing where it doesn't. Assumes nothing.
+-- A short way is the whole way where it answers, and nothing where it doesn't. Assumes nothing.
 use mathlib.Core.Path.{_≡_, refl, _∙_, ap, subst}
 use Prim.Native.Nat.{ℕ}
 use lib.IntN.{ℤ}
 use lib.ListN.{getD}
-use mathlib.Core.Bool.{Bool}
+use mathlib.Core.Bool.{Bool, true, false}
 use Rattle.numbers.specs.Ids.{splitOf}
 use Rattle.numbers.specs.declared.Split.the-variants as split
 use Rattle.layout.specs.Mem.{Mem}
 use Rattle.document.specs.declared.answer.Truth.{Truth}
 use Rattle.document.specs.declared.answer.Truth.the-variants as truth
-use Rattle.calls.specs.Insert.{insertPlan, preparedPlan, acted, told, insertBy, preparedBy}
+use Rattle.calls.specs.Insert.{insertPlan, preparedPlan, acted, Told, told, insertBy, preparedBy}
 use Rattle.insert_plan.specs.Gate.{refusalOf}
-use Rattle.insert_ways.specs.Ways.{Into, Short}
+use Rattle.insert_ways.specs.Ways.{Into, Short, Appends}
 use Rattle.insert_ways.specs.declared.direct.Direct.{Direct}
 use Rattle.insert_ways.specs.declared.direct.Direct.the-variants.{Is, Elsewhere}
 use Rattle.insert_plan.proofs.Gates.{insert-at, prepared-at}
@@ -59,3 +59,29 @@ module _ (x y : Mem) (z : ℤ) (r : Direct) (i : Short x z r y) where
 
     pub then-prepared : (a : Truth) (u : Mem) → told a u ≡ preparedBy y z → told a u ≡ preparedBy x z
     then-prepared a u f = f ∙ ap (λ (m : Mem). preparedBy m z) left
+
+-- ---- at the end of a row
+
+pub appends-none : (t : Told) (x : Mem) → Appends t x false x
+unfolding Appends
+appends-none t x = refl
+
+pub appends-is : (t : Told) (x y : Mem) → told (truth.Is true) y ≡ t → Appends t x true y
+unfolding Appends
+appends-is t x y e = e
+
+module _ (x y : Mem) (t u : Told) (e : t ≡ u) where
+  pub appends-of : (b : Bool) → Appends t x b y → Appends u x b y
+  appends-of b i = subst (λ (k : Told). Appends k x b y) e i
+
+module _ (x y : Mem) (z : ℤ) (b : Bool) (i : Appends (insertBy x z) x b y) where
+  appended-as : (q : Bool) → b ≡ q → Appends (insertBy x z) x q y
+  appended-as q e = subst (λ (k : Bool). Appends (insertBy x z) x k y) e i
+
+  pub appended : b ≡ true → told (truth.Is true) y ≡ insertBy x z
+  unfolding Appends
+  appended e = appended-as true e
+
+  pub appended-not : b ≡ false → (a : Truth) (u : Mem) → told a u ≡ insertBy y z → told a u ≡ insertBy x z
+  unfolding Appends
+  appended-not e a u f = f ∙ ap (λ (m : Mem). insertBy m z) (appended-as false e)

@@ -3,7 +3,7 @@ ghost use mathlib.Core.Path.{_≡_};
 ghost use mathlib.Core.List.{List};
 ghost use mathlib.Core.Bool.{not};
 ghost use Prim.Native.Nat.{ℕ, _+_, _*_, _^_, _≤_, _<_};
-ghost use lib.ListN.{length, take, drop};
+ghost use lib.ListN.{length, set, take, drop};
 ghost use Rattle.sparse.specs.Edit.{insertedAt};
 ghost use Rattle.dense.specs.Bits.{isSet, withBit, withRow};
 ghost use Rattle.layout.specs.Mem.{mem};
@@ -56,6 +56,16 @@ fn enter(rows: &mut [u32], table: &mut [u64], c: u64, o: u64, r: u64, l: usize, 
     let e = a + m as usize;
     sparse::insert_at(&mut rows[a..e], l, k, o as u32);
     write::set_word(table, c, place::row_word(r, l as u64 + 1));
+}
+
+// Offset o of chunk c at i, the place behind its row's members, and its word w, which counts one more.
+pub fn append(rows: &mut [u32], table: &mut [u64], c: u64, o: u64, w: u64, i: usize)
+    requires { ⌜ (i < length (now rows)) × (o < 2 ^ 32) × (w < 2 ^ 28) × (c < 2 ^ 62) × (c < headerAt (now table) .d) ⌝ }
+    ensures { λ _. ⌜ (now (rows .exit) ≡ set (now (rows .entry)) i o)
+        × (now (table .exit) ≡ putWord (headerAt (now (table .entry))) (now (table .entry)) c (w + 1)) ⌝ }
+{
+    rows[i] = o as u32;
+    write::set_word(table, c, w + 1);
 }
 
 // A free row r with one offset.
