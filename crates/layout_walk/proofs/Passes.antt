@@ -1,4 +1,4 @@
--- The pass over the entries: what one more entry adds, that eight absent ones add nothing, and what is found at the end. Assumes nothing.
+-- The pass over the entries: what one more entry adds, that eight absent ones add nothing, and what was seen at the end. Assumes nothing.
 use mathlib.Core.Path.{_≡_, refl, sym, _∙_, ap, ap₂, subst}
 use mathlib.Core.List.{List}
 use mathlib.Core.Bool.{Bool, true, false, not, _&&_, _||_, and-true}
@@ -20,11 +20,11 @@ use Rattle.document.specs.declared.sizes.Sizes.{Sizes}
 use Rattle.layout.specs.declared.place.Place.{Place}
 use Rattle.layout.proofs.Tests.{after-entry, after-all}
 use Rattle.layout.proofs.Eights.{absent-there, absent-each, prefix-each}
-use Rattle.layout_walk.specs.Found.{prefixBefore, Found, EightAlike}
+use Rattle.layout_walk.specs.Seen.{prefixBefore, SeenTo, EightAlike}
 use Rattle.layout_walk.proofs.Free.{count-more}
 
 module _ (h : Sizes) (t : List ℕ) where
-  -- ---- prefixes: what was found of the entries before the one before e, with that one's prefix p, and the next prefix q, or the total
+  -- ---- prefixes: what was seen of the entries before the one before e, with that one's prefix p, and the next prefix q, or the total
 
   rises-more : (e : ℕ) (a : Bool) (p q : ℕ) → e < entries h t → a ≡ allTo (prefixRises h t) (e - 1) → p ≡ prefixBefore h t e → q ≡ prefixAt h t e
       → (a && leb p q) ≡ allTo (prefixRises h t) (e + 1 - 1)
@@ -48,8 +48,8 @@ module _ (h : Sizes) (t : List ℕ) where
 
   -- ---- one more entry
 
-  pub found-none : Found h t 0 true 0 0 true 0
-  found-none = record {
+  pub seen-none : SeenTo h t 0 true 0 0 true 0
+  seen-none = record {
     places = all-none _;
     in-rows = sym (count-zero _);
     in-pages = sym (count-zero _);
@@ -57,14 +57,14 @@ module _ (h : Sizes) (t : List ℕ) where
     last = refl;
   }
 
-  module _ (e : ℕ) (ok : Bool) (rows pages : ℕ) (rise : Bool) (prefix : ℕ) (f : Found h t e ok rows pages rise prefix) where
-    pub found-small : (rows ≤ e) × (pages ≤ e)
-    found-small = (omega (arith, f .in-rows, count-le (λ (i : ℕ). hasRow (placeAt h t i)) e), omega (arith, f .in-pages, count-le (λ (i : ℕ). hasPage (placeAt h t i)) e))
+  module _ (e : ℕ) (ok : Bool) (rows pages : ℕ) (rise : Bool) (prefix : ℕ) (f : SeenTo h t e ok rows pages rise prefix) where
+    pub seen-small : (rows ≤ e) × (pages ≤ e)
+    seen-small = (omega (arith, f .in-rows, count-le (λ (i : ℕ). hasRow (placeAt h t i)) e), omega (arith, f .in-pages, count-le (λ (i : ℕ). hasPage (placeAt h t i)) e))
 
     module _ (l : e < entries h t) where
-      pub found-more : (q : Place) (b r d : Bool) (next : ℕ) → q ≡ placeAt h t e → b ≡ placeIs h t e → r ≡ hasRow q → d ≡ hasPage q → next ≡ prefixAt h t e
-          → Found h t (e + 1) (ok && b) (rows + boolByte r) (pages + boolByte d) (rise && leb prefix next) next
-      found-more q b r d next eq eb er ed en = record {
+      pub seen-more : (q : Place) (b r d : Bool) (next : ℕ) → q ≡ placeAt h t e → b ≡ placeIs h t e → r ≡ hasRow q → d ≡ hasPage q → next ≡ prefixAt h t e
+          → SeenTo h t (e + 1) (ok && b) (rows + boolByte r) (pages + boolByte d) (rise && leb prefix next) next
+      seen-more q b r d next eq eb er ed en = record {
         places = all-more (placeIs h t) e ok b (f .places) eb;
         in-rows = count-more (λ (i : ℕ). hasRow (placeAt h t i)) e rows r (f .in-rows) (er ∙ ap hasRow eq);
         in-pages = count-more (λ (i : ℕ). hasPage (placeAt h t i)) e pages d (f .in-pages) (ed ∙ ap hasPage eq);
@@ -73,11 +73,11 @@ module _ (h : Sizes) (t : List ℕ) where
       }
 
       -- an absent one with the same prefix adds nothing
-      found-absent : wordAt h t e ≡ 0 → prefixAt h t e ≡ prefix → Found h t (e + 1) ok rows pages rise prefix
+      seen-absent : wordAt h t e ≡ 0 → prefixAt h t e ≡ prefix → SeenTo h t (e + 1) ok rows pages rise prefix
       unfolding placeIs
-      found-absent w p =
+      seen-absent w p =
           let z : decoded 0 ≡ placeAt h t e = ap decoded (sym w) in
-          let g = found-more (decoded 0) true false false prefix z (ap (ownedIs h t (chunkAt h t e)) z) refl refl (sym p) in
+          let g = seen-more (decoded 0) true false false prefix z (ap (ownedIs h t (chunkAt h t e)) z) refl refl (sym p) in
           let r : (rise && leb prefix prefix) ≡ rise = ap (λ (b : Bool). rise && b) (le-leb prefix prefix (omega arith)) ∙ and-true rise in
           record {
             places = sym (and-true ok) ∙ g .places;
@@ -97,35 +97,35 @@ module _ (h : Sizes) (t : List ℕ) where
       let l = absent-there h t e (h .d) refl a in
       record { direct = l; absent = absent-each h t e (h .d) refl a; level = prefix-each h t e n l (sym eb ∙ y) }
 
-  module _ (e : ℕ) (ok : Bool) (rows pages : ℕ) (rise : Bool) (prefix : ℕ) (f : Found h t e ok rows pages rise prefix) (a : EightAlike h t e prefix) where
-    found-some : (k : ℕ) → k ≤ 8 → Found h t (e + k) ok rows pages rise prefix
-    found-some zero l = let z : e ≡ e + 0 = omega arith in subst (λ (i : ℕ). Found h t i ok rows pages rise prefix) z f
-    found-some (suc k) l =
+  module _ (e : ℕ) (ok : Bool) (rows pages : ℕ) (rise : Bool) (prefix : ℕ) (f : SeenTo h t e ok rows pages rise prefix) (a : EightAlike h t e prefix) where
+    seen-some : (k : ℕ) → k ≤ 8 → SeenTo h t (e + k) ok rows pages rise prefix
+    seen-some zero l = let z : e ≡ e + 0 = omega arith in subst (λ (i : ℕ). SeenTo h t i ok rows pages rise prefix) z f
+    seen-some (suc k) l =
         let s : e + k + 1 ≡ e + suc k = omega arith in
         let d = a .direct in
-        subst (λ (i : ℕ). Found h t i ok rows pages rise prefix) s
-        (found-absent (e + k) ok rows pages rise prefix (found-some k (omega arith)) (omega arith) (a .absent k (omega arith)) (a .level k (omega arith)))
+        subst (λ (i : ℕ). SeenTo h t i ok rows pages rise prefix) s
+        (seen-absent (e + k) ok rows pages rise prefix (seen-some k (omega arith)) (omega arith) (a .absent k (omega arith)) (a .level k (omega arith)))
 
-    pub found-eight : Found h t (e + 8) ok rows pages rise prefix
-    found-eight = found-some 8 (omega arith)
+    pub seen-eight : SeenTo h t (e + 8) ok rows pages rise prefix
+    seen-eight = seen-some 8 (omega arith)
 
   -- ---- at the end
 
-  module _ (e : ℕ) (en : e ≡ entries h t) (ok : Bool) (rows pages : ℕ) (rise : Bool) (prefix : ℕ) (f : Found h t e ok rows pages rise prefix) where
-    pub found-all : Found h t (entries h t) ok rows pages rise prefix
-    found-all = subst (λ (i : ℕ). Found h t i ok rows pages rise prefix) en f
+  module _ (e : ℕ) (en : e ≡ entries h t) (ok : Bool) (rows pages : ℕ) (rise : Bool) (prefix : ℕ) (f : SeenTo h t e ok rows pages rise prefix) where
+    pub seen-all : SeenTo h t (entries h t) ok rows pages rise prefix
+    seen-all = subst (λ (i : ℕ). SeenTo h t i ok rows pages rise prefix) en f
 
-    entries-found : (o : Bool) → o ≡ (eqb (rowsOwned h t) rows && eqb (pagesOwned h t) pages) → (ok && o) ≡ entriesAre h t
+    entries-seen : (o : Bool) → o ≡ (eqb (rowsOwned h t) rows && eqb (pagesOwned h t) pages) → (ok && o) ≡ entriesAre h t
     unfolding entriesAre ownersAre
-    entries-found o eo =
+    entries-seen o eo =
         ap₂ _&&_ (f .places ∙ ap (allTo (placeIs h t)) en)
         (eo ∙ ap₂ (λ (i j : ℕ). eqb (rowsOwned h t) i && eqb (pagesOwned h t) j) (f .in-rows ∙ ap (sparseIn h t) en) (f .in-pages ∙ ap (denseIn h t) en))
 
-    ranks-found : (b : Bool) → b ≡ (not (rankedAt t) || (rise && leb prefix (totalAt t) && ltb (totalAt t) (2 ^ 63))) → b ≡ ranksRise h t
+    ranks-seen : (b : Bool) → b ≡ (not (rankedAt t) || (rise && leb prefix (totalAt t) && ltb (totalAt t) (2 ^ 63))) → b ≡ ranksRise h t
     unfolding ranksRise
-    ranks-found b eb = eb ∙ ap (λ (r : Bool). not (rankedAt t) || (r && ltb (totalAt t) (2 ^ 63))) (rises-all e rise prefix (totalAt t) en (f .rises) (f .last) refl)
+    ranks-seen b eb = eb ∙ ap (λ (r : Bool). not (rankedAt t) || (r && ltb (totalAt t) (2 ^ 63))) (rises-all e rise prefix (totalAt t) en (f .rises) (f .last) refl)
 
-    pub table-found : (z v o b : Bool) → z ≡ zeros t 9 7 → v ≡ overIs h t → o ≡ (eqb (rowsOwned h t) rows && eqb (pagesOwned h t) pages)
+    pub table-seen : (z v o b : Bool) → z ≡ zeros t 9 7 → v ≡ overIs h t → o ≡ (eqb (rowsOwned h t) rows && eqb (pagesOwned h t) pages)
         → b ≡ (not (rankedAt t) || (rise && leb prefix (totalAt t) && ltb (totalAt t) (2 ^ 63))) → (z && v && (ok && o) && b) ≡ tableIs h t
     unfolding tableIs
-    table-found z v o b ez ev eo eb = ap₂ _&&_ (ap₂ _&&_ (ap₂ _&&_ ez ev) (entries-found o eo)) (ranks-found b eb)
+    table-seen z v o b ez ev eo eb = ap₂ _&&_ (ap₂ _&&_ (ap₂ _&&_ ez ev) (entries-seen o eo)) (ranks-seen b eb)

@@ -10,7 +10,7 @@ ghost use Rattle.document.specs.Sizes.{InRange};
 ghost use Rattle.layout.specs.Sizes.{tableSize, overCount, totalAt};
 ghost use Rattle.layout.specs.Entries.{entries};
 ghost use Rattle.layout.specs.Tests.{keyIs, wordIs, placeIs, rankedAt, headIs, overIs, tableIs, walked};
-ghost use Rattle.layout_walk.specs.Found.{Found, EightAlike};
+ghost use Rattle.layout_walk.specs.Seen.{SeenTo, EightAlike};
 use crate::owners;
 use crate::zeros;
 use document::sizes::Sizes;
@@ -103,8 +103,8 @@ pub fn place_is(table: &[u64], h: Sizes, e: u64) -> bool
     }
 }
 
-// What the entries before e have, in one pass.
-pub struct Passed {
+// What one pass over the entries has seen.
+pub struct Seen {
     // their places are good
     pub ok: bool,
     // rows and pages that they name
@@ -128,9 +128,9 @@ fn eight_alike(table: &[u64], h: Sizes, e: u64, n: u64) -> bool
 }
 
 // All entries in one pass.
-pub fn pass(table: &[u64], h: Sizes) -> Passed
+pub fn pass(table: &[u64], h: Sizes) -> Seen
     requires { ⌜ InRange h × (tableSize h ≤ length (now table)) × (overCount (now table) ≤ 65536) ⌝ }
-    ensures { λ p. ⌜ (let t = now (table .entry) in Found h t (entries h t) (p .ok) (p .rows) (p .pages) (p .rise) (p .prefix)) ⌝ }
+    ensures { λ p. ⌜ (let t = now (table .entry) in SeenTo h t (entries h t) (p .ok) (p .rows) (p .pages) (p .rise) (p .prefix)) ⌝ }
 {
     let n = h.d + head::over_count(table);
     let mut ok = true;
@@ -153,7 +153,7 @@ pub fn pass(table: &[u64], h: Sizes) -> Passed
             e += 1;
         }
     }
-    Passed {
+    Seen {
         ok: ok,
         rows: rows,
         pages: pages,

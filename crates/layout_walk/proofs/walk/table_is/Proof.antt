@@ -1,6 +1,6 @@
 -- All rules of the table together. Assumes nothing.
 use mathlib.Core.Path.{refl}
-use Rattle.layout_walk.proofs.Passes.{table-found}
+use Rattle.layout_walk.proofs.Passes.{table-seen}
 use borrow.Author.Needs.{needs}
 use Rattle.layout_walk.proofs.walk.table_is.Statement.{statement}
 use Rattle.layout_walk.proofs.walk.table_is.Tie as tie
@@ -22,7 +22,7 @@ ranks-rise-requires c κs = search needs
 
 returns : tie.Need-returns
 returns c =
-    table-found _ _ _ refl _ _ _ _ _ (c .before .before .before .before .before .pass .ensures) _ _ _ _
+    table-seen _ _ _ refl _ _ _ _ _ (c .before .before .before .before .before .pass .ensures) _ _ _ _
     (c .before .before .before .before .zeros64 .ensures) (c .before .before .before .over-is .ensures) (c .before .before .owners-are .ensures) (c .ranks-rise .ensures)
 
 pub table-is-spec : {M : Type 1} → statement M

@@ -1,4 +1,4 @@
--- What the walk's pass over the entries finds, and where it may pass over eight of them.
+-- What the walk's pass over the entries has seen, and where it may pass over eight of them.
 use mathlib.Core.Path.{_≡_}
 use Prim.Native.Nat.{ℕ, zero, suc, _+_, _-_, _≤_, _<_}
 use mathlib.Core.List.{List}
@@ -14,7 +14,7 @@ prefixBefore h t zero = 0
 prefixBefore h t (suc e) = prefixAt h t e
 
 -- of the entries before e: whether their places are good, how many rows and pages they name, whether no prefix is above the next, the last prefix
-pub record Found (h : Sizes) (t : List ℕ) (e : ℕ) (ok : Bool) (rows pages : ℕ) (rise : Bool) (prefix : ℕ) : Type 0 where
+pub record SeenTo (h : Sizes) (t : List ℕ) (e : ℕ) (ok : Bool) (rows pages : ℕ) (rise : Bool) (prefix : ℕ) : Type 0 where
   pub places : ok ≡ allTo (placeIs h t) e
   pub in-rows : rows ≡ sparseIn h t e
   pub in-pages : pages ≡ denseIn h t e
