@@ -1,4 +1,5 @@
 // The calls, each by its verb (verb::of). What they answer is said by verb too (say::answer), but for those that say it themselves.
+use crate::many;
 use crate::marks;
 use crate::memory;
 use crate::partition;
@@ -91,6 +92,9 @@ pub fn reads(v: u64, line: &[u8], p: &[u64], r: &[u32], b: &[u32], t: &[u64], c:
         26 => say::listing(read::bp_iter_from(p, r, b, t, words::id_or(line, 2, 0))),
         29 => marks::mark(line, p, r, b, t),
         30 => marks::meet(line, c),
+        31 => many::get(line, p, r, b, t),
+        32 => many::rank(line, p, r, b, t),
+        33 => many::rank_if(line, p, r, b, t),
         _ => say::answer(v, asks(v, words::id_or(line, 2, 0), p, r, b, t)),
     }
 }

@@ -2,6 +2,7 @@
 // Pools go by the letters that `dump` shows: p pages, r rows, b block counts, t table, c boundaries.
 mod call;
 mod input;
+mod many;
 mod marks;
 mod memory;
 mod pair;
@@ -27,6 +28,7 @@ fn on(
     match v {
         0..=7 => say::answer(v, call::changes(v, line, p, r, b, t)),
         19 => partition::plan(line, p, r, b, t, c),
+        34 => many::insert(line, p, r, b, t),
         _ => call::reads(v, line, p, r, b, t, c),
     }
 }

@@ -8,6 +8,7 @@ use document::answer::Listing;
 use libc::STDOUT_FILENO;
 use lines::signs;
 use lines::words;
+use lists::insert::Inserted;
 use numbers::id as id_limits;
 
 pub fn text(bytes: &[u8]) {
@@ -111,6 +112,49 @@ pub fn marks(a: DoneAnswer, marks: &[u8], n: usize) {
         return;
     }
     first(marks, n);
+    text(b"\n");
+}
+
+// A rank of a list, a space before it if it is not the first; 2^64 - 1 stands for none.
+fn rank(i: usize, n: u64) {
+    if 0 < i {
+        text(b" ");
+    }
+    if n == u64::MAX {
+        text(b"none");
+    } else {
+        number(b"", n);
+    }
+}
+
+// The first n of some ranks.
+fn few(ranks: &[u64], n: usize) {
+    let mut i: usize = 0;
+    while i < ranks.len() {
+        if i < n {
+            rank(i, ranks[i]);
+        }
+        i += 1;
+    }
+}
+
+// A line of n ranks.
+pub fn ranks(a: DoneAnswer, ranks: &[u64], n: usize) {
+    if a.refusal != 0 {
+        value(b"refused ", a.refusal);
+        return;
+    }
+    few(ranks, n);
+    text(b"\n");
+}
+
+// How many ids were taken, how many of them were new, and what refused the next one.
+pub fn inserted(a: Inserted) {
+    number(b"", a.taken);
+    number(b" ", a.fresh);
+    if a.refusal != 0 {
+        number(b" refused ", a.refusal);
+    }
     text(b"\n");
 }
 

@@ -22,7 +22,8 @@ pub fn numbers(line: &[u8]) -> [u64; 6] {
     ]
 }
 
-// Whether word j is of a kind: a set, a set that word 1 isn't, a room of at most 256 boundaries, a number, a range's low or high end that may lack, or an id.
+// Whether word j is of a kind: a set, a set that word 1 isn't, a room of at most 256 boundaries, a number, a low end or listed id that may lack,
+// a high end that lacks with its low end, or an id.
 fn is(line: &[u8], j: u64, kind: u8) -> bool {
     match kind {
         b'k' => words::number_or(line, j, 2) < 2,
@@ -56,13 +57,13 @@ pub fn of(line: &[u8]) -> u64 {
         b"set prepare rankup open setup poke new put get empty \
         has chunk rank rankif len chunks total check dump plan \
         part in meets slots bounded any iter from merge mark \
-        meet",
+        meet getall rankall rankifall insertall",
     );
     let kinds = words::word(
         b"ki ki k k knnnnnn knnn ki ki ki k \
         k ki ki ki k k k k k knr \
         knnnrn knnnrni knnnrnii n inn kii ki kj kj kiilhlhlhlhlhlhlh \
-        knnnrniilhlhlhlhlhlhlh",
+        knnnrniilhlhlhlhlhlhlh killlllll killlllll killlllll killlllll",
         v,
     );
     if fits(line, kinds) { v } else { u64::MAX }
