@@ -3,8 +3,8 @@
 use crate::clock::waited;
 use crate::ids::Walk;
 use crate::idset::IdSet;
-use crate::library::{Memory, Sizes};
 use crate::machine::{Quiet, kind, peak};
+use crate::memory::{Memory, Sizes};
 use crate::sides::{Open, Part, Ranked};
 use crate::table::short;
 use std::time::Duration;

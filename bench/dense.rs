@@ -1,7 +1,7 @@
 //! Calls on dense chunks: every chunk up to the last id is prepared, and its memory touched, before any time is taken.
 use crate::ids::{Random, Walk};
 use crate::idset::{IdSet, RankedIdSet};
-use crate::library::{DONE, Memory, Sizes};
+use crate::memory::{DONE, Memory, Sizes};
 use crate::table::Table;
 use crate::{Scale, again, each, locations, sum};
 use std::hint::black_box;

@@ -1,7 +1,7 @@
 //! What a new chunk costs as chunks grow: one id in each, and the last 256 chunks up to each mark taken for themselves.
 use crate::ids::in_chunks;
 use crate::idset::IdSet;
-use crate::library::{DONE, Memory};
+use crate::memory::{DONE, Memory};
 use crate::table::{Table, in_turn};
 use crate::{Scale, rows, sum};
 use std::time::Duration;

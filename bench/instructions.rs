@@ -1,7 +1,7 @@
 //! Loops for callgrind, on one side: one call over 4,096 offsets of a chunk.
 //! Counted is all that happens inside `counted_loop`, or inside the library's entry alone.
 use crate::idset::IdSet;
-use crate::library::{DONE, Memory, Sizes};
+use crate::memory::{DONE, Memory, Sizes};
 use crate::sum;
 
 const OFFSETS: i64 = 4096;

@@ -3,6 +3,8 @@
 mod afternoon;
 #[allow(dead_code)]
 mod call;
+#[allow(dead_code)]
+mod calls;
 mod clock;
 #[allow(dead_code, clippy::all)]
 mod coord_pack;
@@ -12,11 +14,10 @@ mod ids;
 #[allow(dead_code, clippy::all)]
 mod idset;
 mod instructions;
-#[allow(dead_code)]
-mod library;
 #[allow(dead_code, clippy::all)]
 mod locations;
 mod machine;
+mod memory;
 mod picture;
 #[allow(dead_code)]
 mod planning;
@@ -25,8 +26,8 @@ mod sides;
 mod table;
 mod unions;
 
-use library::Memory;
 use machine::Quiet;
+use memory::Memory;
 use std::hint::black_box;
 use std::time::Instant;
 use table::Table;

@@ -1,7 +1,7 @@
 //! Calls on sparse chunks of a thousand ids each.
 use crate::ids::{Random, in_chunks};
 use crate::idset::IdSet;
-use crate::library::{DONE, Memory, Sizes};
+use crate::memory::{DONE, Memory, Sizes};
 use crate::table::Table;
 use crate::{Scale, sum};
 

@@ -1,8 +1,8 @@
 //! A set and its ranked form on either side, as the afternoon uses them.
 use crate::call::Record;
 use crate::idset::{IdSet, RankedIdSet};
-use crate::library::{DONE, Memory};
 use crate::locations;
+use crate::memory::{DONE, Memory};
 use crate::planning::{ids, ranks};
 
 /// Most boundaries of a plan.

@@ -1,7 +1,7 @@
 //! Union of two halves, every other id in each: of dense chunks, and of sparse ones that stay so.
 use crate::ids::{Walk, in_chunks};
 use crate::idset::IdSet;
-use crate::library::{DONE, Memory, Sizes};
+use crate::memory::{DONE, Memory, Sizes};
 use crate::table::Table;
 use crate::{Scale, dense, rows, sum};
 

@@ -1,5 +1,5 @@
 //! Calls and what they answer, as the program `replay` reads and writes them: one line each.
-pub use crate::library::Sizes;
+pub use crate::memory::Sizes;
 use std::fmt;
 
 /// What planning hands out, and what asking for a partition gives back.

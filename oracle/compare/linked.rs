@@ -1,9 +1,9 @@
 //! The library linked through `exports`: each call is compared at once, memory after each refusal, each plan and each union, elements past the sizes at
 //! the end.
 use crate::call::{Call, Ranges, Record, Said, Sizes};
-use crate::library::{DONE, Done, Listing, Memory, Number, Optional, Truth};
 use crate::lists;
 use crate::locations;
+use crate::memory::{DONE, Done, Listing, Memory, Needs, Number, Optional, Truth};
 use crate::planning;
 use crate::rust::BOUNDARIES;
 use crate::script::Way;
@@ -110,8 +110,8 @@ impl Set {
             Call::Plan { slots, room } => self.plan(slots, room as usize),
             Call::Part { record, room, k } => self.part(record, room as usize, k),
             Call::Meet { record, room, k, ranges } => self.meet(record, room as usize, k, &ranges),
-            Call::Slots(b) => Said::Number(planning::slots_for_budget(b)),
-            Call::Bounded(claim, length, per) => Said::Signed(planning::file_bounded_max_id(claim, length, per)),
+            Call::Slots(b) => Said::Number(brothpillow::slots_for_budget(b)),
+            Call::Bounded(claim, length, per) => Said::Signed(brothpillow::file_bounded_max_id(claim, length, per)),
         }
     }
 

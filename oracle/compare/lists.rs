@@ -1,5 +1,5 @@
 //! A range list as it is lent to the library: lows, highs and marks, of lengths that may differ, the marks neither 0 nor 1.
-use crate::library::Done;
+use crate::memory::Done;
 use std::iter;
 
 /// A mark that no call writes.

@@ -4,11 +4,11 @@
 //! or `linked-all DEPTH`, `piped-all DEPTH PROGRAM..`: every sequence of so many calls.
 mod all;
 mod call;
+mod calls;
 #[allow(dead_code, clippy::all)]
 mod coord_pack;
 #[allow(dead_code, clippy::all)]
 mod idset;
-mod library;
 mod linked;
 mod listed;
 mod lists;
@@ -16,6 +16,7 @@ mod lists;
 mod locations;
 mod marking;
 mod marks;
+mod memory;
 mod piped;
 mod planning;
 mod room;

@@ -3,6 +3,7 @@ use crate::call::{Call, Ranges, Record, Said, Sizes};
 use crate::idset::{IdSet, RankedIdSet};
 use crate::locations;
 use crate::marks::Marked;
+use crate::memory::Needs;
 use crate::room::Room;
 use crate::tally::Tally;
 use crate::unions::Kind;

@@ -1,5 +1,5 @@
 //! A short answer of any kind. Where a call refuses, no field of its answer says anything else.
-use crate::library::{Done, Number, Optional, Truth};
+use crate::memory::{Done, Number, Optional, Truth};
 
 /// Kind 0: done or none. 1: a value. 2: refused, with document 01's number.
 #[derive(Clone, Copy, PartialEq, Eq, Debug)]

@@ -1,6 +1,6 @@
 //! Memory that breaks a rule of docs/LAYOUT.md: what is wrong with which part of it, and which parts a call over many entries looks at.
 use crate::call::Call;
-use crate::library::{Memory, Sizes};
+use crate::memory::{Memory, Sizes};
 use crate::plain::Plain;
 use crate::second::{Word, page_owner_at, row_owner_at, set_bits, standing, word};
 

@@ -1,6 +1,6 @@
 //! Every call as a value: how it is made, and which answers document 01 lets it give on any memory at all.
 use crate::answer::{Answer, DONE, NONE, refused, value};
-use crate::library::{Listing, Memory, Sizes};
+use crate::memory::{Listing, Memory, Sizes};
 
 #[derive(Clone, Copy, Debug)]
 pub enum Call {

@@ -1,6 +1,6 @@
 //! Which calls are made on a piece of memory: all of them, with ids and sizes at edges and near what memory holds.
 use crate::call::Call;
-use crate::library::{Memory, Sizes};
+use crate::memory::{Memory, Sizes};
 use crate::poke::Random;
 
 /// An id at an edge, or one that memory has something about.

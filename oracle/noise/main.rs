@@ -6,12 +6,14 @@
 mod answer;
 mod bad;
 mod call;
+#[path = "../calls.rs"]
+mod calls;
 mod choose;
-#[path = "../library.rs"]
-mod library;
 #[path = "../compare/lists.rs"]
 mod lists;
 mod marks;
+#[path = "../memory.rs"]
+mod memory;
 mod other;
 mod plain;
 #[path = "../compare/planning.rs"]
@@ -26,7 +28,7 @@ mod unions;
 use answer::{DONE, refused};
 use bad::Bad;
 use call::{Call, Record, Said};
-use library::{Memory, Sizes};
+use memory::{Memory, Needs, Sizes};
 use plain::Plain;
 use poke::Random;
 use rows::{NAMES, Row};

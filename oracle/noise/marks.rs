@@ -2,8 +2,8 @@
 //! answers, which then is never refused.
 use crate::answer::{Answer, DONE, refused, value};
 use crate::call::Call;
-use crate::library::{Memory, Sizes};
 use crate::lists::marked;
+use crate::memory::{Memory, Sizes};
 use crate::poke::Random;
 use crate::rows::Row;
 use crate::{Judged, Run, choose};

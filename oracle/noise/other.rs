@@ -1,7 +1,7 @@
 //! What docs/EXCEPTIONS.md lets a call answer on memory that doesn't follow the layout, as far as it doesn't hang on the way a search goes.
 use crate::answer::{Answer, value};
 use crate::call::{Call, Record, Said};
-use crate::library::{Listing, Memory};
+use crate::memory::{Listing, Memory};
 use crate::second::{Word, set_bits, word};
 
 struct Loose<'a> {

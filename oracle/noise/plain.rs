@@ -2,7 +2,7 @@
 //! Slots are part of it, since document 01 says which is taken: so a set fixes memory, but for the elements past the sizes.
 use crate::answer::{Answer, DONE, NONE, value};
 use crate::call::{Call, Record, Said, listed};
-use crate::library::Sizes;
+use crate::memory::{Needs, Sizes};
 use crate::second::sizes_allowed;
 use std::collections::{BTreeMap, BTreeSet};
 

@@ -1,5 +1,5 @@
 //! Memory that no call made: changes that matter often, and noise.
-use crate::library::{Memory, Sizes};
+use crate::memory::{Memory, Needs, Sizes};
 use crate::second::{Word, direct_at, over_at, page_owner_at, row_owner_at, word};
 
 pub struct Random(u64);

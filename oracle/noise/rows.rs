@@ -3,7 +3,7 @@
 use crate::answer::{DONE, NONE, refused, value};
 use crate::bad::{Bad, Entry, Looked};
 use crate::call::{Call, Record, Said, listed};
-use crate::library::Memory;
+use crate::memory::Memory;
 use crate::other;
 use crate::plain::Plain;
 use crate::second::Word;

@@ -1,5 +1,5 @@
 //! The full check a second time, written from docs/LAYOUT.md alone, and the set that memory then stands for.
-use crate::library::{Memory, Sizes};
+use crate::memory::{Memory, Needs, Sizes};
 use crate::plain::{Chunk, Plain};
 
 /// What an entry's word says.

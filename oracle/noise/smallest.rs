@@ -3,8 +3,8 @@
 use crate::answer::{Answer, DONE, NONE, refused, value};
 use crate::bad::Bad;
 use crate::call::{Call, Call::*, Said, listed};
-use crate::library::{Memory, Sizes};
 use crate::lists::marked;
+use crate::memory::{Memory, Sizes};
 use crate::rows::{NAMES, Row};
 use crate::second;
 use crate::unions::{Join, Pair};

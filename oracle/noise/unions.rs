@@ -1,7 +1,7 @@
 //! Union of two memories, either of which may be one that no call made: what it answers, both memories after it, and its row of docs/EXCEPTIONS.md.
 use crate::answer::{Answer, DONE, refused};
 use crate::bad::{Entry, page};
-use crate::library::Memory;
+use crate::memory::{Memory, Needs};
 use crate::plain::Plain;
 use crate::poke::Random;
 use crate::rows::Row;

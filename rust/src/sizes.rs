@@ -56,7 +56,7 @@ impl Sizes {
     /// Whether all six are allowed, else refusal 1.
     pub fn check(self) -> Result<(), Refusal> {
         let none = SlicesMut { pages: &mut [], rows: &mut [], blocks: &mut [], table: &mut [] };
-        // set-up looks at the sizes first; for any that are allowed no slices are too short
+        // set-up looks at the sizes first; where they are allowed it finds that empty slices are too short
         match sys::set_up(self, none).refusal {
             1 => Err(Refusal::OutsideSizes),
             _ => Ok(()),
