@@ -5,7 +5,7 @@ use crate::plain::Plain;
 use crate::second::{Word, page_owner_at, row_owner_at, set_bits, standing, word};
 
 /// The rules that the walk tests.
-const WALK: [u8; 10] = [1, 2, 3, 4, 5, 6, 7, 8, 9, 13];
+const WALK: [u8; 12] = [1, 2, 3, 4, 5, 6, 7, 8, 9, 13, 17, 18];
 
 pub struct Entry {
     pub chunk: u64,
@@ -21,7 +21,7 @@ pub struct Entry {
     pub far: bool,
 }
 
-/// A pool's lowest free slot: whether an entry names it, whether it holds zeros, whether a lower one has an owner and no entry.
+/// A pool's lowest free slot, from the header's word on: whether an entry names it, whether it holds zeros, whether no entry has a lower one.
 #[derive(Clone, Copy, Default)]
 pub struct Free {
     pub named: bool,
@@ -132,14 +132,14 @@ impl Bad {
             e.shared = own.is_some() && slots.get(at + 1) == own.as_ref();
         }
         let named = |dense: bool, k: u64| slots.binary_search(&(dense, k)).is_ok();
-        let free = |dense: bool, n: u64, owner: &dyn Fn(u64) -> usize, filled: &dyn Fn(u64) -> bool| {
-            let lowest = (0..n).find(|&k| t[owner(k)] == 0).unwrap_or(n);
+        let free = |dense: bool, from: u64, n: u64, owner: &dyn Fn(u64) -> usize, filled: &dyn Fn(u64) -> bool| {
+            let lowest = (from..n).find(|&k| t[owner(k)] == 0).unwrap_or(n);
             Free { named: named(dense, lowest), filled: lowest < n && filled(lowest), passed: (0..lowest).any(|k| !named(dense, k)) }
         };
         let (row, page) = if placed {
             (
-                free(false, z.r, &|r| row_owner_at(z, r), &|r| row(x, z.m, r, z.m).is_some_and(|o| o.iter().any(|&o| o != 0))),
-                free(true, z.p, &|p| page_owner_at(z, p), &|p| page(x, s, p).is_some_and(|w| w.iter().any(|&w| w != 0))),
+                free(false, head(9), z.r, &|r| row_owner_at(z, r), &|r| row(x, z.m, r, z.m).is_some_and(|o| o.iter().any(|&o| o != 0))),
+                free(true, head(10), z.p, &|p| page_owner_at(z, p), &|p| page(x, s, p).is_some_and(|w| w.iter().any(|&w| w != 0))),
             )
         } else {
             (Free::default(), Free::default())

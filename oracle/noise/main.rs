@@ -82,7 +82,7 @@ struct Run {
     yes: [u64; 3],
     no: [u64; 3],
     /// How often each rule alone was broken.
-    alone: [u64; 17],
+    alone: [u64; 19],
     /// Records of iteration that go on, by where memory comes from.
     goes_on: [u64; 3],
     /// Answers under each row of docs/EXCEPTIONS.md.
@@ -290,7 +290,7 @@ impl Run {
         let ([made, poked, noise], [_, poked_no, noise_no]) = (self.yes, self.no);
         println!(
             "noise: {} rounds, {} calls, {} changes, refusals 1 to 12 {:?}; both checks: {made} made sets yes, poked {poked} yes {poked_no} no, \
-             noise {noise} yes {noise_no} no; rules 1 to 16 broken alone {:?}; records that go on {:?}",
+             noise {noise} yes {noise_no} no; rules 1 to 18 broken alone {:?}; records that go on {:?}",
             self.rounds, self.calls, self.changes, &self.refusals[1..], &self.alone[1..], self.goes_on
         );
         let rows: Vec<String> = NAMES.iter().zip(self.rows).map(|(name, n)| format!("{name} {n}")).collect();

@@ -158,7 +158,7 @@ fn mode(v: &View) -> bool {
 }
 
 fn unused_header(v: &View) -> bool {
-    v.x.table[9..16].iter().all(|&w| w == 0)
+    v.x.table[11..16].iter().all(|&w| w == 0)
 }
 
 fn overflow_fits(v: &View) -> bool {
@@ -233,10 +233,20 @@ fn block_counts(v: &View) -> bool {
     })
 }
 
-/// Rules 3 to 16, in their order. Each can be asked of any view, so that it can be told which are broken.
-const RULES: [fn(&View) -> bool; 14] = [
+fn no_free_row_below(v: &View) -> bool {
+    let k = v.x.table[9];
+    k <= v.z.r && (0..k).all(|r| v.row_owner(r) != 0)
+}
+
+fn no_free_page_below(v: &View) -> bool {
+    let k = v.x.table[10];
+    k <= v.z.p && (0..k).all(|p| v.page_owner(p) != 0)
+}
+
+/// Rules 3 to 18, in their order. Each can be asked of any view, so that it can be told which are broken.
+const RULES: [fn(&View) -> bool; 16] = [
     mode, unused_header, overflow_fits, overflow_ids, overflow_words, overflow_rest, slots, rows_rise, free_rows, free_pages, owners,
-    prefixes, total, block_counts,
+    prefixes, total, block_counts, no_free_row_below, no_free_page_below,
 ];
 
 /// The set that memory stands for, or the rules that it breaks.

@@ -58,7 +58,7 @@ const SIXTY_FOUR: [Call; 64] = {
     sets
 };
 
-const CASES: [Case; 40] = [
+const CASES: [Case; 42] = [
     (
         "order", [9, 1, 0, 3, 3, 0], &[Set(512), Set(1024)], &[Table(16, 2), Table(19, 1)],
         &[Of(Get(512), NO), Of(Any(0, 512), NO), List(0, &[1024, 512]), Of(SetIfNew(512), YES), Of(Chunks, THREE)],
@@ -91,12 +91,14 @@ const CASES: [Case; 40] = [
     ("far", [9, 64, 1, 0, 1, 0], &SIXTY_FOUR, &[Rows(63, 512)], &[GoesOn(1, 1)]),
     ("falling", [9, 64, 1, 0, 1, 0], &SIXTY_FOUR, &[Rows(63, 0)], &[GoesOn(1, 1)]),
     ("far", [9, 1, 1, 0, 1, 1], &[Set(5)], &[Rows(0, 517)], &[Of(PreAllocate(0), DONE), Of(Get(5), YES)]),
-    ("named free", [9, 1, 2, 0, 1, 0], &[Set(0)], &[Table(20, 0)], &[Of(SetIfNew(513), YES), Of(Get(0), NO), Of(Get(1), YES)]),
+    ("named free", [9, 1, 2, 0, 1, 0], &[Set(0)], &[Table(9, 0), Table(20, 0)], &[Of(SetIfNew(513), YES), Of(Get(0), NO), Of(Get(1), YES)]),
     ("free row", [9, 2, 1, 0, 1, 0], &[], &[Rows(1, 7)], &[Of(SetIfNew(0), YES), Of(Len, YES), Of(Check, NO)]),
     ("free page", [9, 1, 1, 0, 1, 1], &[Set(0)], &[Pages(0, 2)], &[Of(SetIfNew(5), YES), Of(Get(1), YES)]),
     ("free page", [9, 1, 1, 0, 0, 1], &[], &[Pages(0, 1)], &[Of(PreAllocate(0), DONE), Of(Get(0), YES)]),
     ("passed over", [9, 1, 1, 0, 2, 0], &[], &[Table(18, 1)], &[Of(SetIfNew(0), YES), Of(Check, NO)]),
+    ("passed over", [9, 1, 1, 0, 2, 0], &[], &[Table(9, 1)], &[Of(SetIfNew(0), YES), Of(Check, NO)]),
     ("", [9, 1, 1, 0, 1, 0], &[], &[Table(18, 1)], &[Of(SetIfNew(0), refused(7))]),
+    ("", [9, 1, 1, 0, 1, 0], &[], &[Table(9, 1)], &[Of(SetIfNew(0), refused(7))]),
     ("prefix", TINY, &[Set(0), Set(5), IntoRanked], &[Table(17, 2)], &[Of(Rank(5), THREE), Plan(1, Some((2, &[0])))]),
     ("total", [9, 1, 0, 0, 0, 0], &[IntoRanked], &[Table(8, 1)], &[Of(TotalCount, YES), Plan(1, Some((1, &[])))]),
     ("blocks", [9, 1, 1, 0, 0, 1], &[PreAllocate(0), IntoRanked], &[Blocks(0, 1)], &[Of(Rank(0), YES)]),
@@ -109,7 +111,7 @@ const CASES: [Case; 40] = [
     ("negative", [9, 1, 0, 0, 0, 0], &[], &[Table(8, 1)], &[Marks(&[(-5, -1), (1, 0)], Some(&[false, false]))]),
     ("sizes", [9, 1, 0, 0, 0, 0], &[], &[Short(1)], &[Of(ChunkOf(5), NO), Of(Rank(5), refused(5)), Of(Get(5), BAD), Of(Any(1, 0), BAD), Of(Iter(0), BAD)]),
     (
-        "elsewhere", [9, 1, 1, 0, 0, 0], &[], &[Table(9, 1)],
+        "elsewhere", [9, 1, 1, 0, 0, 0], &[], &[Table(11, 1)],
         &[Of(Get(0), NO), Of(Any(0, 0), NO), List(0, &[]), Marks(&[(0, 0)], None), Of(SetIfNew(0), refused(7))],
     ),
     ("elsewhere", ONE, &[Set(0)], &[Table(8, 1)], &[Marks(&[(0, 0), (1, 1)], Some(&[true, false]))]),

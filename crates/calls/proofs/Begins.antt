@@ -13,11 +13,11 @@ use Rattle.sparse.specs.Edit.{insertedAt}
 use Rattle.sparse.proofs.Rows.{member-none}
 use Rattle.layout.specs.Mem.{Mem}
 use Rattle.layout.specs.Sizes.{head, overCount}
-use Rattle.layout.specs.Places.{rowPart, rowOwner}
+use Rattle.layout.specs.Places.{rowPart}
 use Rattle.document.specs.State.{Kind, absent, sparse}
 use Rattle.layout.specs.Meaning.{offsets, kinds, stateOf}
 use Rattle.layout.specs.Follows.{AllZero, Listed, Follows}
-use Rattle.layout.specs.Lowest.{Moves}
+use Rattle.layout.specs.Lowest.{LowestRow, Moves}
 use Rattle.layout.specs.declared.place.Place.{Place}
 use Rattle.layout.specs.declared.place.Place.the-variants.{Absent, Sparse}
 use Rattle.layout_laws.proofs.Sizes.{row-length}
@@ -29,8 +29,7 @@ use Rattle.calls.specs.Insert.{freeRow, startChunk}
 use Rattle.document.specs.Insert.{chunkSize, grown, newAnswer}
 use Rattle.document.specs.Room.{overflows, sparses, denses, verdict}
 use Rattle.calls.specs.declared.plan.Plan.the-variants.{Refuse, Begin}
-use Rattle.calls.proofs.FirstFree.{first-free, found-less, none-full}
-use Rattle.calls.proofs.Slots.{lowest}
+use Rattle.layout.proofs.FirstFree.{lowest, found-less, none-full}
 use Rattle.calls.proofs.Verdicts.{verdict-six, verdict-seven, verdict-room, overflows-is, sparses-is, denses-fit, overflows-fit, Needs}
 use Rattle.calls.proofs.RowEdits.{length-entered, member-entered, listed-entered, listed-free, first-place}
 use Rattle.calls.proofs.Plans.{start-chunk}
@@ -59,11 +58,11 @@ module _ {x : Mem} {n : ℕ} (i : Into x n) (e : placed x n ≡ Absent) where
   -- ---- a row is free
 
   module _ (there : freeRow x < head x .r) where
-    owner : rowOwner (head x) (x .table) (freeRow x) ≡ 0
-    owner = first-free (rowOwner (head x) (x .table)) 0 (head x .r) .free (omega arith)
+    low : LowestRow x (freeRow x)
+    low = lowest (w .rows-from) there
 
     zeros : AllZero (x .rows) (freeRow x * head x .m) (head x .m)
-    zeros = w .free-rows (freeRow x) there owner
+    zeros = w .free-rows (freeRow x) there (low .free)
 
     listed : Listed (head x) row 0
     listed = listed-free (head x) x (freeRow x) zeros
@@ -90,13 +89,13 @@ module _ {x : Mem} {n : ℕ} (i : Into x n) (e : placed x n ≡ Absent) where
           listed =
               subst (λ (j : ℕ). Listed (head x) (insertedAt row 0 j (offset x n)) 1) q
               (listed-entered (head x) row 0 (offset x n) listed long room (offset-in i) (member-none (rowOf row) (offset x n)));
-          came = RowFor.new-row e owner en;
+          came = RowFor.new-row e low en;
         })
 
     begin-good : overflows (head x) (after x n) ≤ head x .v → EntryFor (head x) (x .table) (chunk x n) → Good x n (Begin (freeRow x))
     begin-good ov en =
         let s = sparses-is w in
-        let u = found-less (rowOwner (head x) (x .table)) (head x .r) there in
+        let u = found-less (w .rows-from) there in
         let p = denses-fit w in
         let m = one-more in
         let g = same-pages in
@@ -109,7 +108,7 @@ module _ {x : Mem} {n : ℕ} (i : Into x n) (e : placed x n ≡ Absent) where
         (newAnswer (stateOf x) (pos n))
         (wanted ∙ verdict-room (head x) (after x n) (Is true) ov (omega arith) (omega arith))
         (sym (ap (λ (k : Kind). grown k (chunkSize (stateOf x) (chunk x n)) (head x .m)) (kind-of i Absent e)))
-        (subst (λ (q : Place). Moves x q (Sparse (freeRow x) 1)) (sym e) (lowest (rowOwner (head x) (x .table)) (head x .r) there))
+        (subst (λ (q : Place). Moves x q (Sparse (freeRow x) 1)) (sym e) low)
 
   -- ---- 7, 6
 
@@ -117,7 +116,7 @@ module _ {x : Mem} {n : ℕ} (i : Into x n) (e : placed x n ≡ Absent) where
   seven ov en true q = begin-good (ltb-true (freeRow x) (head x .r) q) ov en
   seven ov en false q =
       let s = sparses-is w in
-      let f = none-full (rowOwner (head x) (x .table)) (head x .r) (ltb-false (freeRow x) (head x .r) q) in
+      let f = none-full (w .rows-from) (ltb-false (freeRow x) (head x .r) q) in
       let m = one-more in
       refuses x w (pos n) (newAnswer (stateOf x) (pos n)) 7 (wanted ∙ verdict-seven (head x) (after x n) (Is true) ov (omega arith))
 

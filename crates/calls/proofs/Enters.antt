@@ -32,7 +32,7 @@ use Rattle.document.specs.Insert.{newAnswer}
 use Rattle.calls.proofs.Outcomes.{Inserts}
 use Rattle.calls.specs.declared.plan.Plan.the-variants.{Enter}
 use Rattle.calls.proofs.RowEdits.{length-entered, member-entered, listed-entered}
-use Rattle.calls.proofs.Plans.{set-same}
+use Rattle.layout.proofs.Owners.{put-owner-same}
 use Rattle.calls.proofs.Grown.{grows}
 use Rattle.calls.proofs.Wanted.{chunk, offset, placed, Good, Into, offset-in, open-at, holds-of, kind-of, same-room}
 use Rattle.calls.proofs.Rowings.{own-row, own-listed, own-long, own-word, own-grown, own-kind}
@@ -75,7 +75,7 @@ module _ {x : Mem} {n : ℕ} (i : Into x n) (r l : ℕ) (e : placed x n ≡ Spar
   unfolding rowed
   entered-is =
       ap (mem (x .pages) (putRow (head x) (x .rows) r row′) (x .blocks))
-      (set-same (putWord (head x) (x .table) (chunk x n) (encoded (Sparse r (suc l)))) (rowOwnersAt (head x) + r) (chunk x n + 1) owner-kept
+      (put-owner-same 9 (rowOwnersAt (head x)) (putWord (head x) (x .table) (chunk x n) (encoded (Sparse r (suc l)))) r (chunk x n + 1) owner-kept (omega arith)
       ∙ ap (λ (k : ℕ). putWord (head x) (x .table) (chunk x n) (encoded (Sparse r k))) (sym (add-one l)))
 
   pub enter-good : Good x n (Enter r l place)

@@ -8,8 +8,6 @@ pub mod Ranges
 pub mod IterationEntries
 pub mod Iterations
 pub mod Refusals
-pub mod FirstFree
-pub mod Cursor
 pub mod Slots
 pub mod Verdicts
 pub mod RowEdits

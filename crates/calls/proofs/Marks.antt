@@ -19,6 +19,7 @@ use Rattle.layout.specs.Follows.{OwnsPage, Follows}
 use Rattle.layout.specs.Lowest.{Moves}
 use Rattle.layout.specs.declared.place.Place.{Place}
 use Rattle.layout.specs.declared.place.Place.the-variants.{Dense}
+use Rattle.layout.proofs.Owners.{put-owner-same}
 use Rattle.layout_laws.proofs.Entries.{laid-ordered}
 use Rattle.layout_laws.proofs.Sizes.{wide-top, page-length}
 use Rattle.layout_laws.proofs.Walked.{laid-walked}
@@ -34,7 +35,7 @@ use Rattle.document.specs.Insert.{chunkSize, grown, newAnswer}
 use Rattle.calls.proofs.Outcomes.{Inserts}
 use Rattle.calls.specs.declared.plan.Plan.the-variants.{Known, Mark}
 use Rattle.calls.proofs.PageEdits.{set-with}
-use Rattle.calls.proofs.Plans.{dense-word, set-same, put-same}
+use Rattle.calls.proofs.Plans.{dense-word, put-same}
 use Rattle.calls.proofs.Grown.{grows}
 use Rattle.calls.proofs.Wanted.{chunk, offset, placed, Says, Good, Into, offset-in, open-at, holds-of, kind-of, known-good, same-room}
 
@@ -56,7 +57,7 @@ module _ {x : Mem} {n : ℕ} (i : Into x n) (q : ℕ) (e : placed x n ≡ Dense 
   table-same =
       let a = dense-word (wordOf (head x) (x .table) (chunk x n)) q e in
       ap (λ (t : List ℕ). putPageOwner (head x) t q (chunk x n + 1)) (put-same (head x) (x .table) (laid-ordered w) (chunk x n) (encoded (Dense q)) a (omega arith))
-      ∙ set-same (x .table) (pageOwnersAt (head x) + q) (chunk x n + 1) (owns .owner)
+      ∙ put-owner-same 10 (pageOwnersAt (head x)) (x .table) q (chunk x n + 1) (owns .owner) (omega arith)
 
   marked-is : paged (head x) x (chunk x n) (Dense q) q (withBit page (offset x n)) ≡ bitPut x (offset x n) q
   unfolding paged

@@ -20,6 +20,7 @@ use Rattle.layout.specs.Entries.{placeOf}
 use Rattle.document.specs.State.{Kind, absent, sparse, dense, isPresent, isDense}
 use Rattle.layout.specs.Meaning.{kindOf, kinds, ranked, stateOf}
 use Rattle.layout.specs.Tests.{Walked}
+use Rattle.layout.specs.Lowest.{LowestPage}
 use Rattle.document.specs.declared.sizes.Sizes.{Sizes}
 use Rattle.layout.specs.declared.place.Place.{Place}
 use Rattle.layout.specs.declared.place.Place.the-variants.{Absent, Sparse, Dense}
@@ -33,7 +34,7 @@ use Rattle.steps.proofs.Paged.{page-moved, paged-owner}
 use Rattle.document.specs.Prepare.{denseMap}
 use Rattle.document.specs.Room.{overflows, denses}
 use Rattle.calls.specs.Prepare.{lowestPage, intoPage, densed, densedTo}
-use Rattle.calls.proofs.FirstFree.{first-free, taken, none-full}
+use Rattle.layout.proofs.FirstFree.{taken, lowest, none-full}
 use Rattle.calls.proofs.Verdicts.{Needs, needs}
 use Rattle.calls.proofs.Needed.{overflows-le, denses-le, dense-more}
 
@@ -131,7 +132,7 @@ module _ (x : Mem) (mode : ranked x ≡ false) (c n : ℕ) (le : n ≤ c) (far :
     where
       go : (b : Bool) → ltb free (head y .p) ≡ b → count (taken owner) (head y .p) < head y .p → free < head y .p
       go true t l = ltb-true free (head y .p) t
-      go false t l = let c = none-full owner (head y .p) (ltb-false free (head y .p) t) in absurd (omega arith)
+      go false t l = let c = none-full (w .pages-from) (ltb-false free (head y .p) t) in absurd (omega arith)
 
   pub entry-free : kinds y n ≡ absent → EntryFor (head y) (y .table) n
   entry-free e l =
@@ -145,8 +146,8 @@ module _ (x : Mem) (mode : ranked x ≡ false) (c n : ℕ) (le : n ≤ c) (far :
   pub is-open : ranked y ≡ false
   is-open = ap (λ (m : ℕ). eqb m 1) (s .mode) ∙ mode
 
-  pub page-owner : lowestPage (head y) y < head y .p → pageOwner (head y) (y .table) (lowestPage (head y) y) ≡ 0
-  page-owner l = first-free owner 0 (head y .p) .free (omega arith)
+  pub page-low : lowestPage (head y) y < head y .p → LowestPage y (lowestPage (head y) y)
+  page-low = lowest (w .pages-from)
 
   pub kind-at : (q : Place) → placeOf (head y) (y .table) n ≡ q → kinds y n ≡ kindOf q
   unfolding kinds
@@ -159,7 +160,7 @@ module _ (x : Mem) (mode : ranked x ≡ false) (c n : ℕ) (le : n ≤ c) (far :
 
   pub page-for : (q : Place) → placeOf (head y) (y .table) n ≡ q → hasPage q ≡ false → PageFor (head y) (y .table) n q (lowestPage (head y) y)
   page-for q e h =
-      PageFor.new-page h (page-owner (place-free q e h)) (λ a. entry-free (kind-at q e ∙ ap kindOf a))
+      PageFor.new-page h (page-low (place-free q e h)) (λ a. entry-free (kind-at q e ∙ ap kindOf a))
 
   module _ (q : Place) (is : placeOf (head y) (y .table) n ≡ q) (k : hasPage q ≡ false) (page : List ℕ) (long : length page ≡ wide (head y)) where
     moved : Moved (head y) y (paged (head y) y n q free page) n (encoded (Dense free))

@@ -1,28 +1,20 @@
--- Rows and pages that are taken: the first free one is the lowest, and a step moves one chunk. Assumes nothing.
+-- Rows and pages that are taken: a step moves one chunk. Assumes nothing.
 use mathlib.Core.Path.{_≡_, refl, sym, ap, subst, _∙_}
 use mathlib.Core.Logic.{_≢_}
 use mathlib.Core.Bool.{Bool, true, false, cond}
 use Prim.Native.Nat.{ℕ, _<_}
-use native.Mathlib.Omega.{arith}
 use lib.Dec.{eqb}
 use borrow.Author.Tests.{eqb-true, ne-eqb}
 use Rattle.sums.specs.Ids.{Ids}
 use Rattle.layout.specs.Mem.{Mem}
 use Rattle.layout.specs.Sizes.{head}
 use Rattle.layout.specs.Entries.{placeOf}
-use Rattle.layout.specs.Free.{firstFree}
-use Rattle.layout.specs.Lowest.{Lowest, Moves, placeIn, TakesLowest, TakesRising}
+use Rattle.layout.specs.Lowest.{Moves, placeIn, TakesLowest, TakesRising}
 use Rattle.layout.specs.Follows.{Follows}
 use Rattle.document.specs.declared.sizes.Sizes.{Sizes}
 use Rattle.layout.specs.declared.place.Place.{Place}
 use Rattle.layout.specs.declared.place.Place.the-variants.{Absent, Sparse, Dense}
 use Rattle.steps.specs.Effects.{Becomes}
-use Rattle.calls.proofs.FirstFree.{first-free}
-
--- where there is one
-pub lowest : (owner : ℕ → ℕ) (n : ℕ) → firstFree owner 0 n < n → Lowest owner n (firstFree owner 0 n)
-lowest owner n l =
-    let f = first-free owner 0 n in record { there = l; free = f .free (omega arith); lower = λ j m. f .before j (omega arith) m }
 
 -- ---- nothing is taken
 

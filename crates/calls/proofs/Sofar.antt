@@ -11,12 +11,12 @@ use Rattle.dense.proofs.Bits.{zero-clear}
 use Rattle.layout.specs.Mem.{Mem}
 use Rattle.document.specs.Sizes.{top, lastChunk}
 use Rattle.layout.specs.Sizes.{wide, head, modeAt}
-use Rattle.layout.specs.Places.{hasPage, rowPart, pagePart, pageOwner}
+use Rattle.layout.specs.Places.{hasPage, rowPart, pagePart}
 use Rattle.layout.specs.Entries.{placeOf}
 use Rattle.document.specs.State.{dense}
 use Rattle.layout.specs.Meaning.{offsets, holds, kinds, ranked, stateOf}
 use Rattle.layout.specs.Follows.{Listed, RowListed, Follows}
-use Rattle.layout.specs.Lowest.{Moves}
+use Rattle.layout.specs.Lowest.{LowestPage, Moves}
 use Rattle.layout.specs.declared.place.Place.{Place}
 use Rattle.layout.specs.declared.place.Place.the-variants.{Absent, Sparse, Dense}
 use Rattle.layout_laws.proofs.Sizes.{page-length}
@@ -27,10 +27,10 @@ use Rattle.steps.proofs.Paged.{paged-becomes}
 use Rattle.calls.specs.Prepare.{lowestPage, intoPage, densed}
 use Rattle.document.specs.Prepare.{denseMap}
 use Rattle.document.specs.Room.{overflows, denses}
-use Rattle.calls.proofs.Slots.{lowest, Turn, turn-none, turn-becomes}
+use Rattle.calls.proofs.Slots.{Turn, turn-none, turn-becomes}
 use Rattle.calls.proofs.PageEdits.{free-bits, length-filled, set-filled}
 use Rattle.layout_laws.proofs.Walked.{laid-walked}
-use Rattle.calls.proofs.Reached.{Reached, onward-is, same-map, inside, is-open, page-owner, kind-at, place-free, page-for}
+use Rattle.calls.proofs.Reached.{Reached, onward-is, same-map, inside, is-open, page-low, kind-at, place-free, page-for}
 
 -- memory y after n chunks
 pub record Sofar (x : Mem) (n : ℕ) (y : Mem) : Type 0 where
@@ -72,7 +72,7 @@ module _ (x : Mem) (mode : ranked x ≡ false) (c n : ℕ) (le : n ≤ c) (far :
   -- ---- the page that a chunk which is not dense takes
 
   clear : (there : free < head y .p) (o : ℕ) → bit (pagePart (head y) (y .pages) free) o ≡ 0
-  clear there = free-bits (y .pages) free (head y .p) (wide (head y)) there (w .room .in-pages) (w .free-pages free there (page-owner x mode c n le far y r over pages there))
+  clear there = free-bits (y .pages) free (head y .p) (wide (head y)) there (w .room .in-pages) (w .free-pages free there (page-low x mode c n le far y r over pages there .free))
 
   -- from the place q
   pub record TakesPage (q : Place) : Type 0 where
@@ -172,9 +172,12 @@ module _ (x : Mem) (mode : ranked x ≡ false) (c n : ℕ) (le : n ≤ c) (far :
   page-takes q e i m =
       subst Takes (sym (takes-is q e i)) (turn-becomes (takes-becomes q e i) (subst (λ (p : Place). Moves y p (Dense free)) (sym e) m))
 
+  low : free < head y .p → LowestPage y free
+  low = page-low x mode c n le far y r over pages
+
   place-takes : (q : Place) → placeOf (head y) (y .table) n ≡ q → Takes (densed (head y) y n)
-  place-takes Absent e = let i = takes-page Absent e refl in page-takes Absent e i (lowest (pageOwner (head y) (y .table)) (head y .p) (i .there))
-  place-takes (Sparse r l) e = let i = takes-page (Sparse r l) e refl in page-takes (Sparse r l) e i (lowest (pageOwner (head y) (y .table)) (head y .p) (i .there))
+  place-takes Absent e = let i = takes-page Absent e refl in page-takes Absent e i (low (i .there))
+  place-takes (Sparse r l) e = let i = takes-page (Sparse r l) e refl in page-takes (Sparse r l) e i (low (i .there))
   place-takes (Dense p) e = subst Takes (sym (stays p e)) (turn-none y n)
 
   pub sofar-takes : Takes (densed (head y) y n)

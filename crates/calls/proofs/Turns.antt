@@ -14,11 +14,11 @@ use Rattle.dense.specs.Bits.{bit, isSet, withBit, withRow}
 use Rattle.layout.specs.Mem.{Mem}
 use Rattle.document.specs.Sizes.{top}
 use Rattle.layout.specs.Sizes.{wide, head}
-use Rattle.layout.specs.Places.{rowPart, pagePart, pageOwner}
+use Rattle.layout.specs.Places.{rowPart, pagePart}
 use Rattle.document.specs.State.{sparse, dense}
 use Rattle.layout.specs.Meaning.{offsets, kinds, stateOf}
 use Rattle.layout.specs.Follows.{Follows}
-use Rattle.layout.specs.Lowest.{Moves}
+use Rattle.layout.specs.Lowest.{LowestPage, Moves}
 use Rattle.layout.specs.declared.place.Place.{Place}
 use Rattle.layout.specs.declared.place.Place.the-variants.{Sparse, Dense}
 use Rattle.layout_laws.proofs.Sizes.{page-length}
@@ -30,8 +30,7 @@ use Rattle.calls.specs.Insert.{freePage, turnDense}
 use Rattle.document.specs.Insert.{newAnswer}
 use Rattle.document.specs.Room.{overflows, sparses, denses, verdict}
 use Rattle.calls.specs.declared.plan.Plan.the-variants.{Refuse, Turn}
-use Rattle.calls.proofs.FirstFree.{first-free, found-less, none-full}
-use Rattle.calls.proofs.Slots.{lowest}
+use Rattle.layout.proofs.FirstFree.{lowest, found-less, none-full}
 use Rattle.calls.proofs.Verdicts.{verdict-eight, verdict-room, denses-is, sparses-fit, overflows-fit, Needs}
 use Rattle.calls.proofs.PageEdits.{free-bits, set-turned, length-turned}
 use Rattle.calls.proofs.Plans.{turn-dense}
@@ -74,14 +73,14 @@ module _ {x : Mem} {n : ℕ} (i : Into x n) (r l : ℕ) (e : placed x n ≡ Spar
     abbrev page′ : List ℕ
     page′ = withBit (withRow blank row (top (head x)) l) (offset x n)
 
-    owner : pageOwner (head x) (x .table) (freePage x) ≡ 0
-    owner = first-free (pageOwner (head x) (x .table)) 0 (head x .p) .free (omega arith)
+    low : LowestPage x (freePage x)
+    low = lowest (w .pages-from) there
 
     long : length blank ≡ wide (head x)
     long = page-length (head x) x (w .room) (freePage x) there
 
     clear : (o : ℕ) → bit blank o ≡ 0
-    clear = free-bits (x .pages) (freePage x) (head x .p) (wide (head x)) there (w .room .in-pages) (w .free-pages (freePage x) there owner)
+    clear = free-bits (x .pages) (freePage x) (head x .p) (wide (head x)) there (w .room .in-pages) (w .free-pages (freePage x) there (low .free))
 
     opened : Becomes x (paged (head x) x (chunk x n) (Sparse r l) (freePage x) page′) (chunk x n) (Dense (freePage x)) (isSet page′)
     opened =
@@ -91,12 +90,12 @@ module _ {x : Mem} {n : ℕ} (i : Into x n) (r l : ℕ) (e : placed x n ≡ Spar
           old-is = sym e;
           there = there;
           long = length-turned (head x) (w .sizes) blank row l long clear (own-listed i r l e) (offset x n);
-          came = PageFor.new-page refl owner (λ q. absurd (let z : _≡_ {A = ℕ} 0 1 = cc in omega arith));
+          came = PageFor.new-page refl low (λ q. absurd (let z : _≡_ {A = ℕ} 0 1 = cc in omega arith));
         })
 
     turn-good : Good x n (Turn r l (freePage x))
     turn-good =
-        let f = found-less (pageOwner (head x) (x .table)) (head x .p) there in
+        let f = found-less (w .pages-from) there in
         let p = denses-is w in
         let y = page-more in
         grows n (Dense (freePage x)) (isSet page′) opened
@@ -104,12 +103,12 @@ module _ {x : Mem} {n : ℕ} (i : Into x n) (r l : ℕ) (e : placed x n ≡ Spar
         (newAnswer (stateOf x) (pos n))
         (wanted ∙ verdict-room (head x) (after x n) (Is true) over-room row-room (omega arith))
         (own-kind i r l e false (le-ltb l (head x .m) full))
-        (subst (λ (q : Place). Moves x q (Dense (freePage x))) (sym e) (lowest (pageOwner (head x) (x .table)) (head x .p) there))
+        (subst (λ (q : Place). Moves x q (Dense (freePage x))) (sym e) low)
 
   eight : (b : Bool) → ltb (freePage x) (head x .p) ≡ b → Good x n (cond b (Turn r l (freePage x)) (Refuse 8))
   eight true q = turn-good (ltb-true (freePage x) (head x .p) q)
   eight false q =
-      let f = none-full (pageOwner (head x) (x .table)) (head x .p) (ltb-false (freePage x) (head x .p) q) in
+      let f = none-full (w .pages-from) (ltb-false (freePage x) (head x .p) q) in
       let p = denses-is w in
       let y = page-more in
       refuses x w (pos n) (newAnswer (stateOf x) (pos n)) 8 (wanted ∙ verdict-eight (head x) (after x n) (Is true) over-room row-room (omega arith))

@@ -22,7 +22,7 @@ use Rattle.document.specs.declared.answer.Truth.the-variants.{Refused}
 use Rattle.layout_laws.proofs.Walked.{laid-walked}
 use Rattle.layout_laws.proofs.ChunkCounts.{over-chunks, sparse-rows, dense-pages}
 use Rattle.document.specs.Room.{overflows, sparses, denses, verdict}
-use Rattle.calls.proofs.FirstFree.{taken}
+use Rattle.layout.proofs.FirstFree.{taken}
 
 -- ---- the verdict on a map
 

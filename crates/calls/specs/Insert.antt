@@ -19,9 +19,9 @@ use Rattle.document.specs.declared.answer.Truth.{Truth}
 use Rattle.document.specs.declared.answer.Truth.the-variants.{Is, Refused}
 use Rattle.layout.specs.Mem.{Mem, mem}
 use Rattle.layout.specs.Sizes.{head, modeAt, overCount}
-use Rattle.layout.specs.Places.{decoded, encoded, rowPart, pagePart, rowOwner, pageOwner}
+use Rattle.layout.specs.Places.{decoded, encoded, rowPart, pagePart}
 use Rattle.layout.specs.Short.{wordIn, spotFits}
-unfoldable pub use Rattle.layout.specs.Free.{firstFree}
+use Rattle.layout.specs.Free.{freeRowIn, freePageIn}
 use Rattle.layout.specs.Tests.{headIs}
 use Rattle.layout.specs.Writes.{putWord, putRow, putPage}
 use Rattle.layout.specs.declared.place.Place.{Place}
@@ -37,10 +37,10 @@ use Rattle.calls.specs.declared.plan.Plan.the-variants.{Refuse, Known, M
 
 -- the lowest free row and page
 abbrev pub freeRow : Mem → ℕ
-freeRow x = firstFree (rowOwner (head x) (x .table)) 0 (head x .r)
+freeRow x = freeRowIn (head x) (x .table)
 
 abbrev pub freePage : Mem → ℕ
-freePage x = firstFree (pageOwner (head x) (x .table)) 0 (head x .p)
+freePage x = freePageIn (head x) (x .table)
 
 -- an absent chunk c starts sparse: an overflow entry, then a row
 abbrev pub startChunk : Mem → ℕ → Plan

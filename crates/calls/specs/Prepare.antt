@@ -11,10 +11,10 @@ use Rattle.layout.specs.Mem.{Mem}
 use Rattle.document.specs.Sizes.{top}
 use Rattle.document.specs.Refusals.{not-laid-out, is-ranked, overflow-full, pages-full}
 use Rattle.layout.specs.Sizes.{overStart, head, modeAt, overCount}
-use Rattle.layout.specs.Places.{hasPage, rowPart, pagePart, pageOwner}
+use Rattle.layout.specs.Places.{hasPage, rowPart, pagePart}
 use Rattle.layout.specs.Entries.{entries, chunkAt, placeAt, placeOf}
 use Rattle.layout.specs.Short.{overPlace}
-use Rattle.layout.specs.Free.{firstFree}
+use Rattle.layout.specs.Free.{freePageIn}
 use Rattle.layout.specs.Meaning.{ranked}
 use Rattle.layout.specs.Tests.{Walked, walked}
 use Rattle.layout.specs.SetUp.{Did, did}
@@ -26,7 +26,7 @@ use Rattle.steps.specs.Steps.{paged}
 
 -- the lowest free page, P where there is none
 abbrev pub lowestPage : Sizes → Mem → ℕ
-lowestPage h x = firstFree (pageOwner h (x .table)) 0 (h .p)
+lowestPage h x = freePageIn h (x .table)
 
 -- chunk c into page p, with the members of its row; a dense one stays where it is
 abbrev pub intoPage : Sizes → Mem → ℕ → ℕ → Place → Mem

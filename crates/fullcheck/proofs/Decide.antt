@@ -106,6 +106,8 @@ module _ (h : Sizes) (x : Mem) where
         prefixes = q .0 .1 .0;
         total = q .0 .1 .1;
         blocks = λ p b l m. q .1 p l b m;
+        rows-from = w .rows-from;
+        pages-from = w .pages-from;
       })
       (λ f. ((((f .lists, f .free-rows), f .free-pages), (f .prefixes, f .total)), λ p l b m. f .blocks p b l m))
 

@@ -12,11 +12,12 @@ use Rattle.sparse.specs.declared.Place.{Place}
 use Rattle.sparse.specs.declared.Place.the-variants.{Found, Free}
 use Rattle.layout.specs.Mem.{Mem}
 use Rattle.layout.specs.Sizes.{head, overCount}
-use Rattle.layout.specs.Places.{rowPart, rowOwner, pageOwner}
+use Rattle.layout.specs.Places.{rowPart}
+use Rattle.layout.specs.Free.{freeRowIn, freePageIn}
 use Rattle.layout.specs.Tests.{headIs}
 use Rattle.layout.proofs.Tests.{HeadIs, head-of}
 use Rattle.document.specs.declared.sizes.Sizes.{Sizes}
-use Rattle.calls.specs.Insert.{firstFree, freeRow, freePage, startChunk, turnDense, intoRow}
+use Rattle.calls.specs.Insert.{freeRow, freePage, startChunk, turnDense, intoRow}
 use Rattle.calls.specs.declared.plan.Plan.{Plan}
 use Rattle.calls.specs.declared.plan.Plan.the-variants.{Refuse, Known, Enter, Begin, Turn}
 use Rattle.layout.proofs.Lent.{span}
@@ -53,9 +54,9 @@ module _ (x : Mem) (h : Sizes) (e : h ≡ head x) (b : Bool) (f : b ≡ headIs h
       pub begin-six : (leb (h .d) c && leb (h .v) n) ≡ true → Refuse 6 ≡ startChunk x c
       begin-six k = begun true k
 
-      module _ (k : (leb (h .d) c && leb (h .v) n) ≡ false) (r : ℕ) (er : r ≡ firstFree (rowOwner h (x .table)) 0 (h .r)) where
+      module _ (k : (leb (h .d) c && leb (h .v) n) ≡ false) (r : ℕ) (er : r ≡ freeRowIn h (x .table)) where
         row-is : r ≡ freeRow x
-        row-is = er ∙ ap (λ (k : Sizes). firstFree (rowOwner k (x .table)) 0 (k .r)) e
+        row-is = er ∙ ap (λ (k : Sizes). freeRowIn k (x .table)) e
 
         fits : ltb (freeRow x) (head x .r) ≡ ltb r (h .r)
         fits = ap₂ (λ (i : ℕ) (k : Sizes). ltb i (k .r)) (sym row-is) (sym e)
@@ -79,9 +80,9 @@ module _ (x : Mem) (h : Sizes) (e : h ≡ head x) (b : Bool) (f : b ≡ headIs h
       pub turn-out : h .r ≤ r → Refuse 3 ≡ turnDense x r l
       turn-out m = there false (le-ltb r (h .r) m)
 
-      module _ (m : r < h .r) (p : ℕ) (ep : p ≡ firstFree (pageOwner h (x .table)) 0 (h .p)) where
+      module _ (m : r < h .r) (p : ℕ) (ep : p ≡ freePageIn h (x .table)) where
         page-is : p ≡ freePage x
-        page-is = ep ∙ ap (λ (k : Sizes). firstFree (pageOwner k (x .table)) 0 (k .p)) e
+        page-is = ep ∙ ap (λ (k : Sizes). freePageIn k (x .table)) e
 
         fit : ltb (freePage x) (head x .p) ≡ ltb p (h .p)
         fit = ap₂ (λ (i : ℕ) (k : Sizes). ltb i (k .p)) (sym page-is) (sym e)

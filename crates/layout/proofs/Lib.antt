@@ -2,6 +2,7 @@ pub mod Heads
 pub mod Places
 pub mod Entries
 pub mod Eights
+pub mod FirstFree
 pub mod Tests
 pub mod Finds
 pub mod Spots
@@ -10,3 +11,4 @@ pub mod Zeroed
 pub mod Parts
 pub mod Lent
 pub mod Added
+pub mod Owners

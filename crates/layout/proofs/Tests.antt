@@ -11,14 +11,15 @@ use Rattle.sums.specs.Rules.{allTo, Decides}
 use Rattle.sums.proofs.Rules.{all-of, and-of, unless-of, not-of, if-of, bool-of, same-of, leb-of, ltb-of, eqb-of}
 use Rattle.layout.specs.Mem.{Mem}
 use Rattle.document.specs.Sizes.{InRange, lastChunk}
-use Rattle.layout.specs.Sizes.{Roomy, RoomIn, wide, blocksOf, overAt, tableSize, head, modeAt, overCount, totalAt}
+use Rattle.layout.specs.Sizes.{Roomy, RoomIn, wide, blocksOf, overAt, tableSize, head, modeAt, overCount, totalAt, rowsFrom, pagesFrom}
 use Rattle.layout.specs.Places.{rowOwner, pageOwner}
 use Rattle.layout.specs.Entries.{entries, chunkAt, prefixAt, placeAt}
-use Rattle.layout.specs.Follows.{AllZero, Key, Owned}
-use Rattle.layout.specs.Tests.{inRange, roomy, roomIn, zeroAt, zeros, keyIs, wordIs, ownedIs, placeIs, rowsOwned, pagesOwned, sparseIn, denseIn, ownersAre, rankedAt, prefixAfter, prefixRises, ranksRise, Walked, headIs, overIs, entriesAre, tableIs, walked}
+use Rattle.layout.specs.Follows.{AllZero, Key, Owned, FullTo}
+use Rattle.layout.specs.Tests.{inRange, roomy, roomIn, zeroAt, zeros, keyIs, wordIs, ownedIs, placeIs, rowsOwned, pagesOwned, sparseIn, denseIn, ownersAre, rankedAt, prefixAfter, prefixRises, ranksRise, fromsAre, Walked, headIs, overIs, entriesAre, tableIs, walked}
 use Rattle.document.specs.declared.sizes.Sizes.{Sizes}
 use Rattle.layout.specs.declared.place.Place.{Place}
 use Rattle.layout.specs.declared.place.Place.the-variants.{Absent, Sparse, Dense}
+use Rattle.layout.proofs.FirstFree.{full-of}
 
 pub always : Decides true Unit
 always = record { sound = λ h. tt; whole = λ u. refl }
@@ -136,6 +137,10 @@ module _ (h : Sizes) (t : List ℕ) where
       if-of (bool-of (rankedAt t))
       (and-of (all-of (prefixRises h t) (entries h t) (λ e l. leb-of (prefixAt h t e) (prefixAfter h t e))) (ltb-of (totalAt t) (2 ^ 63)))
 
+  froms-of : Decides (fromsAre h t) (FullTo (rowOwner h t) (h .r) (rowsFrom t) × FullTo (pageOwner h t) (h .p) (pagesFrom t))
+  unfolding fromsAre
+  froms-of = and-of (full-of (rowOwner h t) (h .r) (rowsFrom t)) (full-of (pageOwner h t) (h .p) (pagesFrom t))
+
 pub walked-of : (x : Mem) → Decides (walked x) (Walked x (head x))
 unfolding walked tableIs overIs entriesAre Rises
 walked-of x =
@@ -143,25 +148,27 @@ walked-of x =
     let t = x .table in
     same-of
     (and-of (head-of h x)
-    (and-of (and-of (and-of (zeros-of t 9 7)
+    (and-of (and-of (and-of (and-of (zeros-of t 11 5)
     (and-of (and-of (keys-of h t) (words-of h t)) (zeros-of t (overAt h (overCount t)) (3 * (h .v - overCount t)))))
-    (and-of (places-of h t) (owners-of h t))) (rise-of h t)))
+    (and-of (places-of h t) (owners-of h t))) (rise-of h t)) (froms-of h t)))
     (λ q. record {
       sizes = q .0 .sizes;
       room = q .0 .room;
       mode = q .0 .mode;
-      unused = q .1 .0 .0 .0;
+      unused = q .1 .0 .0 .0 .0;
       over-fits = q .0 .over-fits;
-      keys = q .1 .0 .0 .1 .0 .0;
-      words = q .1 .0 .0 .1 .0 .1;
-      spare = q .1 .0 .0 .1 .1;
-      places = q .1 .0 .1 .0;
-      rows-used = q .1 .0 .1 .1 .0;
-      pages-used = q .1 .0 .1 .1 .1;
-      rising = λ r. q .1 .1 r .0;
-      total = λ r. q .1 .1 r .1;
+      keys = q .1 .0 .0 .0 .1 .0 .0;
+      words = q .1 .0 .0 .0 .1 .0 .1;
+      spare = q .1 .0 .0 .0 .1 .1;
+      places = q .1 .0 .0 .1 .0;
+      rows-used = q .1 .0 .0 .1 .1 .0;
+      pages-used = q .1 .0 .0 .1 .1 .1;
+      rising = λ r. q .1 .0 .1 r .0;
+      total = λ r. q .1 .0 .1 r .1;
+      rows-from = q .1 .1 .0;
+      pages-from = q .1 .1 .1;
     })
     (λ w. (
       record { sizes = w .sizes; room = w .room; mode = w .mode; over-fits = w .over-fits },
-      (((w .unused, ((w .keys, w .words), w .spare)), (w .places, (w .rows-used, w .pages-used))), λ r. (w .rising r, w .total r)),
+      ((((w .unused, ((w .keys, w .words), w .spare)), (w .places, (w .rows-used, w .pages-used))), λ r. (w .rising r, w .total r)), (w .rows-from, w .pages-from)),
     ))

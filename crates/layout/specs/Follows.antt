@@ -11,7 +11,7 @@ use Rattle.sums.specs.Ids.{count}
 use Rattle.dense.specs.Bits.{bitsTo}
 use Rattle.layout.specs.Mem.{Mem}
 use Rattle.document.specs.Sizes.{InRange, top, lastChunk}
-use Rattle.layout.specs.Sizes.{RoomIn, wide, blocksOf, overAt, head, modeAt, overCount, totalAt}
+use Rattle.layout.specs.Sizes.{RoomIn, wide, blocksOf, overAt, head, modeAt, overCount, totalAt, rowsFrom, pagesFrom}
 use Rattle.layout.specs.Places.{hasRow, hasPage, rowPart, pagePart, rowOwner, pageOwner}
 use Rattle.layout.specs.Entries.{entries, chunkAt, prefixAt, placeAt}
 use Rattle.layout.specs.Meaning.{ranked}
@@ -70,12 +70,17 @@ membersAt h x e = sizeOf h (x .pages) (placeAt h (x .table) e)
 abbrev pub whenRanked : Mem → ℕ → ℕ
 whenRanked x n = cond (ranked x) n 0
 
+-- of n slots, every one below k has an owner
+pub record FullTo (owner : ℕ → ℕ) (n k : ℕ) : Type 0 where
+  pub within : k ≤ n
+  pub owned : (j : ℕ) → j < k → owner j ≢ 0
+
 -- memory x is laid out by the sizes h
 pub record Laid (x : Mem) (h : Sizes) : Type 0 where
   pub sizes : InRange h
   pub room : RoomIn h x
   pub mode : modeAt (x .table) ≤ 1
-  pub unused : AllZero (x .table) 9 7
+  pub unused : AllZero (x .table) 11 5
   pub over-fits : overCount (x .table) ≤ h .v
   pub keys : (j : ℕ) → j < overCount (x .table) → Key h (x .table) j
   pub words : (j : ℕ) → j < overCount (x .table) → getD (x .table) (overAt h j + 1) 0 ≢ 0
@@ -89,6 +94,8 @@ pub record Laid (x : Mem) (h : Sizes) : Type 0 where
   pub prefixes : (e : ℕ) → e < entries h (x .table) → prefixAt h (x .table) e ≡ whenRanked x (sumTo (membersAt h x) e)
   pub total : totalAt (x .table) ≡ whenRanked x (sumTo (membersAt h x) (entries h (x .table)))
   pub blocks : (p b : ℕ) → p < h .p → b < blocksOf h → getD (x .blocks) (p * blocksOf h + b) 0 ≡ whenRanked x (bitsTo (pagePart h (x .pages) p) (512 * b))
+  pub rows-from : FullTo (rowOwner h (x .table)) (h .r) (rowsFrom (x .table))
+  pub pages-from : FullTo (pageOwner h (x .table)) (h .p) (pagesFrom (x .table))
 
 abbrev pub Follows : Mem → Type 0
 Follows x = Laid x (head x)

@@ -5,12 +5,12 @@ pub mod Entries
 pub mod Eight
 pub mod Meaning
 pub mod Follows
+pub mod Free
 pub mod Tests
 pub mod SetUp
 pub mod Short
 pub mod Part
 pub mod Seat
-pub mod Free
 pub mod Lowest
 pub mod Writes
 pub mod Spare

@@ -57,3 +57,10 @@ overCount t = getD t 7 0
 
 abbrev pub totalAt : List ℕ → ℕ
 totalAt t = getD t 8 0
+
+-- no row below it is free, no page below it is free
+abbrev pub rowsFrom : List ℕ → ℕ
+rowsFrom t = getD t 9 0
+
+abbrev pub pagesFrom : List ℕ → ℕ
+pagesFrom t = getD t 10 0

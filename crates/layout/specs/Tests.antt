@@ -10,11 +10,12 @@ use Rattle.sums.specs.Ids.{count}
 use Rattle.sums.specs.Rules.{allTo}
 use Rattle.layout.specs.Mem.{Mem}
 use Rattle.document.specs.Sizes.{InRange, lastChunk}
-use Rattle.layout.specs.Sizes.{RoomIn, wide, blocksOf, overAt, tableSize, head, modeAt, overCount, totalAt}
+use Rattle.layout.specs.Sizes.{RoomIn, wide, blocksOf, overAt, tableSize, head, modeAt, overCount, totalAt, rowsFrom, pagesFrom}
 use Rattle.layout.specs.Places.{hasRow, hasPage, rowOwner, pageOwner}
 use Rattle.layout.specs.Entries.{entries, chunkAt, prefixAt, placeAt}
 use Rattle.layout.specs.Meaning.{ranked}
-use Rattle.layout.specs.Follows.{AllZero, Key, Owned}
+use Rattle.layout.specs.Follows.{AllZero, Key, Owned, FullTo}
+use Rattle.layout.specs.Free.{firstFree}
 use Rattle.document.specs.declared.sizes.Sizes.{Sizes}
 use Rattle.layout.specs.declared.place.Place.{Place}
 use Rattle.layout.specs.declared.place.Place.the-variants.{Absent, Sparse, Dense}
@@ -84,12 +85,16 @@ prefixRises h t e = leb (prefixAt h t e) (prefixAfter h t e)
 unfoldable pub ranksRise : Sizes → List ℕ → Bool
 ranksRise h t = not (rankedAt t) || (allTo (prefixRises h t) (entries h t) && ltb (totalAt t) (2 ^ 63))
 
+-- 17, 18: header words 9 and 10 are not above the lowest free row and page
+unfoldable pub fromsAre : Sizes → List ℕ → Bool
+fromsAre h t = leb (rowsFrom t) (firstFree (rowOwner h t) 0 (h .r)) && leb (pagesFrom t) (firstFree (pageOwner h t) 0 (h .p))
+
 -- what the walk looks at: all of the table
 pub record Walked (x : Mem) (h : Sizes) : Type 0 where
   pub sizes : InRange h
   pub room : RoomIn h x
   pub mode : modeAt (x .table) ≤ 1
-  pub unused : AllZero (x .table) 9 7
+  pub unused : AllZero (x .table) 11 5
   pub over-fits : overCount (x .table) ≤ h .v
   pub keys : (j : ℕ) → j < overCount (x .table) → Key h (x .table) j
   pub words : (j : ℕ) → j < overCount (x .table) → getD (x .table) (overAt h j + 1) 0 ≢ 0
@@ -99,6 +104,8 @@ pub record Walked (x : Mem) (h : Sizes) : Type 0 where
   pub pages-used : pagesOwned h (x .table) ≡ denseIn h (x .table) (entries h (x .table))
   pub rising : ranked x ≡ true → (e : ℕ) → e < entries h (x .table) → prefixAt h (x .table) e ≤ prefixAfter h (x .table) e
   pub total : ranked x ≡ true → totalAt (x .table) < 2 ^ 63
+  pub rows-from : FullTo (rowOwner h (x .table)) (h .r) (rowsFrom (x .table))
+  pub pages-from : FullTo (pageOwner h (x .table)) (h .p) (pagesFrom (x .table))
 
 unfoldable pub headIs : Sizes → Mem → Bool
 headIs h x = inRange h && roomIn h x && leb (modeAt (x .table)) 1 && leb (overCount (x .table)) (h .v)
@@ -113,7 +120,7 @@ unfoldable pub entriesAre : Sizes → List ℕ → Bool
 entriesAre h t = allTo (placeIs h t) (entries h t) && ownersAre h t
 
 unfoldable pub tableIs : Sizes → List ℕ → Bool
-tableIs h t = zeros t 9 7 && overIs h t && entriesAre h t && ranksRise h t
+tableIs h t = zeros t 11 5 && overIs h t && entriesAre h t && ranksRise h t && fromsAre h t
 
 unfoldable pub walked : Mem → Bool
 walked x = headIs (head x) x && tableIs (head x) (x .table)

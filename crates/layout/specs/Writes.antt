@@ -1,5 +1,5 @@
 -- Writes to the table and to parts of the pools. Nothing above has an address.
-use Prim.Native.Nat.{ℕ, _+_, _*_, _-_}
+use Prim.Native.Nat.{ℕ, _+_, _*_, _-_, min}
 use mathlib.Core.List.{List, [], _∷_, _++_}
 use mathlib.Core.Bool.{cond, _&&_}
 use lib.ListN.{length, getD, set, take, drop}
@@ -42,11 +42,20 @@ putTotal t total = set t 8 total
 abbrev pub putPrefix : Sizes → List ℕ → ℕ → ℕ → List ℕ
 putPrefix h t e v = set t (prefixPlace h e) v
 
+-- the place below which nothing is free, once slot i, whose owner was `old`, has the owner w
+-- a slot that gets free lowers it; one that is taken is the lowest free one, so that it goes past it
+abbrev pub fromAfter : ℕ → ℕ → ℕ → ℕ → ℕ
+fromAfter from i old w = cond (eqb w 0) (min from i) (cond (eqb old 0) (i + 1) from)
+
+-- w as the owner of slot i, the owners starting at a, and header word k
+unfoldable pub putOwner : ℕ → ℕ → List ℕ → ℕ → ℕ → List ℕ
+putOwner k a t i w = set (set t (a + i) w) k (fromAfter (getD t k 0) i (getD t (a + i) 0) w)
+
 abbrev pub putRowOwner : Sizes → List ℕ → ℕ → ℕ → List ℕ
-putRowOwner h t r w = set t (rowOwnersAt h + r) w
+putRowOwner h t r w = putOwner 9 (rowOwnersAt h) t r w
 
 abbrev pub putPageOwner : Sizes → List ℕ → ℕ → ℕ → List ℕ
-putPageOwner h t p w = set t (pageOwnersAt h + p) w
+putPageOwner h t p w = putOwner 10 (pageOwnersAt h) t p w
 
 abbrev pub putRow : Sizes → List ℕ → ℕ → List ℕ → List ℕ
 putRow h rows r row = putPart rows (r * h .m) (h .m) row

@@ -2,7 +2,7 @@
 ghost use mathlib.Core.Path.{_≡_};
 ghost use Prim.Native.Nat.{_*_, _-_, _≤_};
 ghost use Rattle.document.specs.Sizes.{InRange};
-ghost use Rattle.layout.specs.Sizes.{headerAt, modeAt, overCount, totalAt, wide, blocksOf, overAt, rowOwnersAt, pageOwnersAt};
+ghost use Rattle.layout.specs.Sizes.{headerAt, modeAt, overCount, totalAt, rowsFrom, pagesFrom, wide, blocksOf, overAt, rowOwnersAt, pageOwnersAt};
 ghost use Rattle.layout.specs.Tests.{inRange, roomy};
 ghost use Rattle.layout.specs.Writes.{putMode, putTotal};
 use document::sizes::Sizes;
@@ -77,6 +77,20 @@ pub fn total(table: &[u64]) -> u64
     ensures { λ n. ⌜ n ≡ totalAt (now (table .entry)) ⌝ }
 {
     element::at(table, 8)
+}
+
+// No row below it is free.
+pub fn rows_from(table: &[u64]) -> u64
+    ensures { λ n. ⌜ n ≡ rowsFrom (now (table .entry)) ⌝ }
+{
+    element::at(table, 9)
+}
+
+// No page below it is free.
+pub fn pages_from(table: &[u64]) -> u64
+    ensures { λ n. ⌜ n ≡ pagesFrom (now (table .entry)) ⌝ }
+{
+    element::at(table, 10)
 }
 
 // The set is open or ranked from now on.

@@ -15,7 +15,7 @@ use Rattle.layout.specs.Entries.{entries, chunkAt, prefixAt, placeAt, placeOf}
 use Rattle.document.specs.State.{absent, isPresent}
 use Rattle.layout.specs.Meaning.{offsets, holds, kindOf, kinds, ranked, stateOf}
 use Rattle.document.specs.Answers.{chunksIn}
-use Rattle.layout.specs.Follows.{AllZero, Owned, RowListed, whenRanked, Laid, Follows}
+use Rattle.layout.specs.Follows.{AllZero, Owned, RowListed, whenRanked, FullTo, Laid, Follows}
 use Rattle.layout.specs.SetUp.{freshTable, fresh}
 use Rattle.document.specs.declared.sizes.Sizes.{Sizes}
 use Rattle.layout.specs.declared.place.Place.{Place}
@@ -41,6 +41,10 @@ kept-open y e n = ap (λ (m : ℕ). cond (eqb m 1) n 0) e
 -- part i of n, each k long, of a run of zeros
 part-zero : (xs : List ℕ) (i n k : ℕ) → i < n → ((j : ℕ) → j < n * k → getD xs j 0 ≡ 0) → AllZero xs (i * k) k
 part-zero xs i n k l z j m = let s = slot-inside i n k l in z (i * k + j) (omega arith)
+
+-- nothing is said of slots below 0
+none-below : {f : ℕ → ℕ} {n k : ℕ} → k ≡ 0 → FullTo f n k
+none-below e = record { within = omega arith; owned = λ j l. absurd (omega arith) }
 
 module _ (y : Mem) (h : Sizes) (b : Blank y h) where
   blank-mode : modeAt (y .table) ≡ 0
@@ -69,7 +73,7 @@ module _ (y : Mem) (h : Sizes) (b : Blank y h) where
         sizes = b .sizes;
         room = b .room;
         mode = omega arith;
-        unused = λ i l. b .table (9 + i) (omega arith) (omega arith);
+        unused = λ i l. b .table (11 + i) (omega arith) (omega arith);
         over-fits = omega arith;
         keys = λ j l. absurd (omega arith);
         words = λ j l. absurd (omega arith);
@@ -87,6 +91,8 @@ module _ (y : Mem) (h : Sizes) (b : Blank y h) where
         prefixes = λ e l. blank-prefix e l ∙ sym (kept-open y o _);
         total = b .table 8 (omega arith) (omega arith) ∙ sym (kept-open y o _);
         blocks = λ p i l m. part-zero (y .blocks) p (h .p) (blocksOf h) l (b .blocks) i m ∙ sym (kept-open y o _);
+        rows-from = none-below (b .table 9 (omega arith) (omega arith));
+        pages-from = none-below (b .table 10 (omega arith) (omega arith));
       }
 
   pub blank-absent : (c : ℕ) → placeOf h (y .table) c ≡ Absent

@@ -25,6 +25,7 @@ use Rattle.layout.proofs.Tests.{room-of}
 use Rattle.layout.proofs.Zeroed.{zeroed-past, zeroed-length}
 use Rattle.layout.proofs.Parts.{length-put, put-off}
 use Rattle.layout.proofs.Added.{added-length, added-high}
+use Rattle.layout.proofs.Owners.{put-owner-length, put-owner-off}
 use Rattle.layout_laws.proofs.Sizes.{slot-inside}
 use Rattle.layout_laws.proofs.Keys.{cut-missed}
 use Rattle.layout_laws.proofs.Entries as ids
@@ -85,10 +86,12 @@ module _ (h : Sizes) (t : List ℕ) where
   prefix-beyond e v l = set-beyond (tableSize h) t (prefixPlace h e) v (prefix-inside e l)
 
   pub row-owner-beyond : (r w : ℕ) → r < h .r → Beyond (tableSize h) t (putRowOwner h t r w)
-  row-owner-beyond r w l = set-beyond (tableSize h) t (rowOwnersAt h + r) w (omega arith)
+  row-owner-beyond r w l =
+      record { long = put-owner-length 9 (rowOwnersAt h) t r w; same = λ i m. put-owner-off 9 (rowOwnersAt h) t r w i (omega arith) (omega arith) }
 
   pub page-owner-beyond : (p w : ℕ) → p < h .p → Beyond (tableSize h) t (putPageOwner h t p w)
-  page-owner-beyond p w l = set-beyond (tableSize h) t (pageOwnersAt h + p) w (omega arith)
+  page-owner-beyond p w l =
+      record { long = put-owner-length 10 (pageOwnersAt h) t p w; same = λ i m. put-owner-off 10 (pageOwnersAt h) t p w i (omega arith) (omega arith) }
 
   -- a new overflow entry, where one of the V is left
   pub added-beyond : (c w k : ℕ) → k ≤ overCount t → overAt h (overCount t + 1) ≤ length t → overCount t < h .v → Beyond (tableSize h) t (added h t c w k)

@@ -12,8 +12,8 @@ use Rattle.sums.proofs.Sums.{sum-next, sum-bound}
 use Rattle.dense.proofs.Counts.{bits-le}
 use Rattle.document.specs.Sizes.{InRange, top}
 use Rattle.document.specs.declared.sizes.Sizes.{Sizes}
-use Rattle.layout.specs.Mem.{Mem}
-use Rattle.layout.specs.Sizes.{head, overCount, totalAt}
+use Rattle.layout.specs.Mem.{Mem, mem}
+use Rattle.layout.specs.Sizes.{RoomIn, head, overCount, totalAt}
 use Rattle.layout.specs.Places.{pagePart}
 use Rattle.layout.specs.Entries.{entries, chunkAt, prefixAt, placeAt}
 use Rattle.layout.specs.Meaning.{ranked}
@@ -104,6 +104,28 @@ laid-walked w = record {
   pages-used = w .pages-used;
   rising = λ r e l. (let a = prefix-adds w r e l in omega arith);
   total = total-fits w;
+  rows-from = w .rows-from;
+  pages-from = w .pages-from;
+}
+
+-- the same table, with other pools that are long enough
+pub walked-beside : {x : Mem} {h : Sizes} → Walked x h → (p r b : List ℕ) → RoomIn h (mem p r b (x .table)) → Walked (mem p r b (x .table)) h
+walked-beside w p r b room = record {
+  sizes = w .sizes;
+  room = room;
+  mode = w .mode;
+  unused = w .unused;
+  over-fits = w .over-fits;
+  keys = w .keys;
+  words = w .words;
+  spare = w .spare;
+  places = w .places;
+  rows-used = w .rows-used;
+  pages-used = w .pages-used;
+  rising = w .rising;
+  total = w .total;
+  rows-from = w .rows-from;
+  pages-from = w .pages-from;
 }
 
 pub follows-walked : {x : Mem} → Follows x → walked x ≡ true

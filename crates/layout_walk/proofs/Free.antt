@@ -1,5 +1,5 @@
 -- The search for the first free place, turn by turn, and the owners counted. Assumes nothing.
-use mathlib.Core.Path.{_≡_, sym, _∙_, ap, ap₂}
+use mathlib.Core.Path.{_≡_, refl, sym, _∙_, ap, ap₂}
 use mathlib.Core.List.{List}
 use mathlib.Core.Bool.{Bool, cond, not}
 use Prim.Native.Nat.{ℕ, suc, _+_, _-_, _≤_, _<_}
@@ -35,11 +35,11 @@ module _ (f : ℕ → ℕ) (k i : ℕ) where
 -- ---- owners that start at a, which was computed
 
 module _ (t : List ℕ) (a b : ℕ) (e : a ≡ b) where
-  pub free-from : (r i k : ℕ) → r ≡ firstFree (λ (j : ℕ). getD t (a + j) 0) i (k - i) → r ≡ firstFree (λ (j : ℕ). getD t (b + j) 0) i (k - i)
-  free-from r i k h = h ∙ ap (λ (n : ℕ). firstFree (λ (j : ℕ). getD t (n + j) 0) i (k - i)) e
+  pub free-from : (r i f k : ℕ) → i ≡ f → r ≡ firstFree (λ (j : ℕ). getD t (a + j) 0) i (k - i) → r ≡ firstFree (λ (j : ℕ). getD t (b + j) 0) f (k - f)
+  free-from r i f k g h = h ∙ ap₂ (λ (n m : ℕ). firstFree (λ (j : ℕ). getD t (n + j) 0) m (k - m)) e g
 
   pub free-first : (r k : ℕ) → r ≡ firstFree (λ (j : ℕ). getD t (a + j) 0) 0 (k - 0) → r ≡ firstFree (λ (j : ℕ). getD t (b + j) 0) 0 k
-  free-first r k h = let m : k - 0 ≡ k = omega arith in free-from r 0 k h ∙ ap (firstFree (λ (j : ℕ). getD t (b + j) 0) 0) m
+  free-first r k h = let m : k - 0 ≡ k = omega arith in free-from r 0 0 k refl h ∙ ap (firstFree (λ (j : ℕ). getD t (b + j) 0) 0) m
 
   pub owned-from : (r k : ℕ) → r ≡ count (λ (j : ℕ). not (eqb (getD t (a + j) 0) 0)) k → r ≡ count (λ (j : ℕ). not (eqb (getD t (b + j) 0) 0)) k
   owned-from r k h = h ∙ ap (λ (n : ℕ). count (λ (j : ℕ). not (eqb (getD t (n + j) 0) 0)) k) e

@@ -15,7 +15,7 @@ use Rattle.layout.specs.Sizes.{directAt, totalAt}
 use Rattle.layout.specs.Places.{decoded, hasRow, hasPage}
 use Rattle.layout.specs.Entries.{entries, chunkAt, wordAt, prefixAt, placeAt}
 use Rattle.layout.specs.Eight.{eightAre, eightAbsent}
-use Rattle.layout.specs.Tests.{zeros, ownedIs, placeIs, rowsOwned, pagesOwned, sparseIn, denseIn, ownersAre, rankedAt, prefixRises, ranksRise, overIs, entriesAre, tableIs}
+use Rattle.layout.specs.Tests.{zeros, ownedIs, placeIs, rowsOwned, pagesOwned, sparseIn, denseIn, ownersAre, rankedAt, prefixRises, ranksRise, fromsAre, overIs, entriesAre, tableIs}
 use Rattle.document.specs.declared.sizes.Sizes.{Sizes}
 use Rattle.layout.specs.declared.place.Place.{Place}
 use Rattle.layout.proofs.Tests.{after-entry, after-all}
@@ -125,7 +125,7 @@ module _ (h : Sizes) (t : List ℕ) where
     unfolding ranksRise
     ranks-seen b eb = eb ∙ ap (λ (r : Bool). not (rankedAt t) || (r && ltb (totalAt t) (2 ^ 63))) (rises-all e rise prefix (totalAt t) en (f .rises) (f .last) refl)
 
-    pub table-seen : (z v o b : Bool) → z ≡ zeros t 9 7 → v ≡ overIs h t → o ≡ (eqb (rowsOwned h t) rows && eqb (pagesOwned h t) pages)
-        → b ≡ (not (rankedAt t) || (rise && leb prefix (totalAt t) && ltb (totalAt t) (2 ^ 63))) → (z && v && (ok && o) && b) ≡ tableIs h t
+    pub table-seen : (z v o b g : Bool) → z ≡ zeros t 11 5 → v ≡ overIs h t → o ≡ (eqb (rowsOwned h t) rows && eqb (pagesOwned h t) pages)
+        → b ≡ (not (rankedAt t) || (rise && leb prefix (totalAt t) && ltb (totalAt t) (2 ^ 63))) → g ≡ fromsAre h t → (z && v && (ok && o) && b && g) ≡ tableIs h t
     unfolding tableIs
-    table-seen z v o b ez ev eo eb = ap₂ _&&_ (ap₂ _&&_ (ap₂ _&&_ ez ev) (entries-seen o eo)) (ranks-seen b eb)
+    table-seen z v o b g ez ev eo eb eg = ap₂ _&&_ (ap₂ _&&_ (ap₂ _&&_ (ap₂ _&&_ ez ev) (entries-seen o eo)) (ranks-seen b eb)) eg

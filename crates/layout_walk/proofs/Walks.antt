@@ -11,10 +11,11 @@ use Rattle.sums.specs.Rules.{allTo}
 use Rattle.sums.proofs.Rules.{and-of, same-of, leb-of, eqb-of}
 use Rattle.layout.specs.Mem.{Mem}
 use Rattle.document.specs.Sizes.{InRange, lastChunk}
-use Rattle.layout.specs.Sizes.{overAt, tableSize, head, modeAt, overCount}
+use Rattle.layout.specs.Sizes.{overAt, tableSize, head, modeAt, overCount, rowsFrom, pagesFrom}
+use Rattle.layout.specs.Free.{firstFree}
 use Rattle.layout.specs.Places.{rowOwner, pageOwner}
 use Rattle.layout.specs.Entries.{entries, chunkAt, placeAt}
-use Rattle.layout.specs.Tests.{inRange, roomIn, zeros, keyIs, wordIs, ownedIs, placeIs, headIs, overIs, tableIs, walked}
+use Rattle.layout.specs.Tests.{inRange, roomIn, zeros, keyIs, wordIs, ownedIs, placeIs, fromsAre, headIs, overIs, tableIs, walked}
 use Rattle.document.specs.declared.sizes.Sizes.{Sizes}
 use Rattle.layout.specs.declared.place.Place.{Place}
 use Rattle.layout.specs.declared.place.Place.the-variants.{Sparse, Dense}
@@ -87,6 +88,12 @@ pub over-passes : (h : Sizes) (t : List ℕ) (n i k : ℕ) (a b d : Bool) → n 
 unfolding overIs
 over-passes h t n i k a b d m f g p q r =
     ap₂ _&&_ (ap₂ _&&_ p q) (r ∙ (ap₂ (zeros t) f g ∙ ap (λ (j : ℕ). zeros t (overAt h j) (3 * (h .v - j))) m))
+
+-- header words i and j beside the lowest free row a and page b
+pub froms-pass : (h : Sizes) (t : List ℕ) (i j a b : ℕ) → i ≡ rowsFrom t → j ≡ pagesFrom t → a ≡ firstFree (rowOwner h t) 0 (h .r) → b ≡ firstFree (pageOwner h t) 0 (h .p)
+    → (leb i a && leb j b) ≡ fromsAre h t
+unfolding fromsAre
+froms-pass h t i j a b ei ej ea eb = ap₂ _&&_ (ap₂ leb ei ea) (ap₂ leb ej eb)
 
 -- ---- the whole walk
 

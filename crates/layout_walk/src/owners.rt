@@ -7,15 +7,15 @@ ghost use lib.Dec.{eqb};
 ghost use Rattle.sums.specs.Ids.{count};
 ghost use Rattle.document.specs.Sizes.{InRange};
 ghost use Rattle.layout.specs.Places.{rowOwner, pageOwner};
-ghost use Rattle.layout.specs.Free.{firstFree};
-ghost use Rattle.layout.specs.Tests.{rowsOwned, pagesOwned};
+ghost use Rattle.layout.specs.Free.{firstFree, freeRowIn, freePageIn};
+ghost use Rattle.layout.specs.Tests.{rowsOwned, pagesOwned, fromsAre};
 use document::sizes::Sizes;
 use layout::head;
 use numbers::element;
 
 // The first of places i to n - 1 whose owner is 0, else the one past them; the owners start at a.
 fn first_free(table: &[u64], a: u64, i: u64, n: u64) -> u64
-    requires { ⌜ (a ≤ 1048576) × (i ≤ 65536) × (n ≤ 65536) ⌝ }
+    requires { ⌜ (a ≤ 1048576) × (n ≤ 65536) ⌝ }
     ensures { λ r. ⌜ r ≡ firstFree (λ (j : ℕ). getD (now (table .entry)) (a + j) 0) i (n - i) ⌝ }
 {
     let mut k = i;
@@ -28,25 +28,25 @@ fn first_free(table: &[u64], a: u64, i: u64, n: u64) -> u64
     k
 }
 
-// The lowest free row, R where there is none.
+// The lowest free row from the header's word on, R where there is none.
 pub fn free_row(table: &[u64], h: Sizes) -> u64
     requires { ⌜ InRange h ⌝ }
-    ensures { λ r. ⌜ r ≡ firstFree (rowOwner h (now (table .entry))) 0 (h .r) ⌝ }
+    ensures { λ r. ⌜ r ≡ freeRowIn h (now (table .entry)) ⌝ }
 {
-    first_free(table, head::row_owners_at(h), 0, h.r)
+    first_free(table, head::row_owners_at(h), head::rows_from(table), h.r)
 }
 
-// The lowest free page, P where there is none.
+// The lowest free page from the header's word on, P where there is none.
 pub fn free_page(table: &[u64], h: Sizes) -> u64
     requires { ⌜ InRange h ⌝ }
-    ensures { λ p. ⌜ p ≡ firstFree (pageOwner h (now (table .entry))) 0 (h .p) ⌝ }
+    ensures { λ p. ⌜ p ≡ freePageIn h (now (table .entry)) ⌝ }
 {
-    first_free(table, head::page_owners_at(h), 0, h.p)
+    first_free(table, head::page_owners_at(h), head::pages_from(table), h.p)
 }
 
 // The lowest free row from `next` on.
 pub fn next_row(table: &[u64], h: Sizes, next: u64) -> u64
-    requires { ⌜ InRange h × (next ≤ 65536) ⌝ }
+    requires { ⌜ InRange h ⌝ }
     ensures { λ r. ⌜ r ≡ firstFree (rowOwner h (now (table .entry))) next (h .r - next) ⌝ }
 {
     first_free(table, head::row_owners_at(h), next, h.r)
@@ -54,10 +54,20 @@ pub fn next_row(table: &[u64], h: Sizes, next: u64) -> u64
 
 // The lowest free page from `next` on.
 pub fn next_page(table: &[u64], h: Sizes, next: u64) -> u64
-    requires { ⌜ InRange h × (next ≤ 65536) ⌝ }
+    requires { ⌜ InRange h ⌝ }
     ensures { λ p. ⌜ p ≡ firstFree (pageOwner h (now (table .entry))) next (h .p - next) ⌝ }
 {
     first_free(table, head::page_owners_at(h), next, h.p)
+}
+
+// The header's words are not above the lowest free row and page.
+pub fn froms_are(table: &[u64], h: Sizes) -> bool
+    requires { ⌜ InRange h ⌝ }
+    ensures { λ b. ⌜ b ≡ fromsAre h (now (table .entry)) ⌝ }
+{
+    let r = first_free(table, head::row_owners_at(h), 0, h.r);
+    let p = first_free(table, head::page_owners_at(h), 0, h.p);
+    (head::rows_from(table) <= r) & (head::pages_from(table) <= p)
 }
 
 // How many of the n owners from a on are not 0.

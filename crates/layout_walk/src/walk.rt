@@ -194,10 +194,11 @@ pub fn table_is(table: &[u64], h: Sizes) -> bool
     ensures { λ b. ⌜ b ≡ tableIs h (now (table .entry)) ⌝ }
 {
     let p = pass(table, h);
-    zeros::zeros64(table, 9, 7)
+    zeros::zeros64(table, 11, 5)
         & over_is(table, h)
         & (p.ok & owners::owners_are(table, h, p.rows, p.pages))
         & ranks_rise(table, p.rise, p.prefix)
+        & owners::froms_are(table, h)
 }
 
 // After it nothing of the table can be found wrong.

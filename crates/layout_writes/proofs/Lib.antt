@@ -1,3 +1,4 @@
 pub mod Fills
 pub mod SetUps
 pub mod Gaps
+pub mod Froms

@@ -4,11 +4,12 @@ ghost use Prim.Native.Nat.{_+_, _^_, _≤_, _<_};
 ghost use lib.ListN.{length, getD};
 ghost use Rattle.document.specs.Sizes.{InRange};
 ghost use Rattle.layout.specs.Sizes.{headerAt, overAt, overCount};
-ghost use Rattle.layout.specs.Writes.{added, overPut, putWord, putPrefix, putRowOwner, putPageOwner};
+ghost use Rattle.layout.specs.Writes.{added, overPut, putWord, putPrefix, fromAfter, putOwner, putRowOwner, putPageOwner};
 use document::sizes::Sizes;
 use layout::find;
 use layout::head;
 use numbers::element;
+use numbers::order;
 
 // A new overflow entry at its place: those from k on move up by one entry, from the top.
 pub fn add_entry(table: &mut [u64], h: Sizes, c: u64, w: u64, k: u64)
@@ -84,12 +85,33 @@ pub fn put_prefix(table: &mut [u64], h: Sizes, e: u64, v: u64)
     }
 }
 
+// The word below which nothing is free, once slot i, which had the owner `old`, has the owner w.
+fn from_after(from: u64, i: u64, old: u64, w: u64) -> u64
+    requires { ⌜ i ≤ 65536 ⌝ }
+    ensures { λ r. ⌜ r ≡ fromAfter from i old w ⌝ }
+{
+    if w == 0 {
+        return order::least_of(from, i);
+    }
+    if old == 0 { i + 1 } else { from }
+}
+
+// The owner of slot i, the owners starting at a, and header word k.
+fn put_owner(table: &mut [u64], k: u64, a: u64, i: u64, w: u64)
+    requires { ⌜ (a ≤ 1048576) × (i ≤ 65536) ⌝ }
+    ensures { λ _. ⌜ now (table .exit) ≡ putOwner k a (now (table .entry)) i w ⌝ }
+{
+    let from = from_after(element::at(table, k), i, element::at(table, a + i), w);
+    element::put(table, a + i, w);
+    element::put(table, k, from);
+}
+
 // The owner of row r: a chunk id plus 1, or 0 for a free one.
 pub fn put_row_owner(table: &mut [u64], h: Sizes, r: u64, w: u64)
     requires { ⌜ InRange h × (r ≤ 65536) ⌝ }
     ensures { λ _. ⌜ now (table .exit) ≡ putRowOwner h (now (table .entry)) r w ⌝ }
 {
-    element::put(table, 16 + 2 * h.d + 3 * h.v + r, w);
+    put_owner(table, 9, head::row_owners_at(h), r, w);
 }
 
 // The owner of page p.
@@ -97,5 +119,5 @@ pub fn put_page_owner(table: &mut [u64], h: Sizes, p: u64, w: u64)
     requires { ⌜ InRange h × (p ≤ 65536) ⌝ }
     ensures { λ _. ⌜ now (table .exit) ≡ putPageOwner h (now (table .entry)) p w ⌝ }
 {
-    element::put(table, 16 + 2 * h.d + 3 * h.v + h.r + p, w);
+    put_owner(table, 10, head::page_owners_at(h), p, w);
 }

@@ -19,9 +19,10 @@ use Rattle.layout.specs.Sizes.{directAt, overStart, overAt, rowOwnersAt, pageOw
 use Rattle.layout.specs.Places.{encoded}
 use Rattle.layout.specs.Short.{overPlace}
 use Rattle.layout.specs.Spare.{Spare}
-use Rattle.layout.specs.Writes.{added, addedIf, overPut, putWord, putRowOwner}
+use Rattle.layout.specs.Writes.{added, addedIf, overPut, putWord, putOwner, putRowOwner}
 use Rattle.layout.specs.declared.place.Place.the-variants.{Sparse, Dense}
 use Rattle.layout.proofs.Added.{added-low}
+use Rattle.layout.proofs.Owners.{put-owner-off}
 use Rattle.layout_laws.proofs.Halving.{lower-between}
 use Rattle.layout_laws.proofs.Spares.{spare-same, spare-then}
 use Rattle.steps.specs.Steps.{rowed, paged}
@@ -49,6 +50,9 @@ heads-if false f g = g
 
 set-heads : (t : List ℕ) (k v : ℕ) → 6 ≤ k → Heads t (set t k v)
 set-heads t k v l = record { same = λ i m. getD-set-other t k i v 0 (omega arith) }
+
+owner-heads : (k a : ℕ) (t : List ℕ) (i v : ℕ) → 6 ≤ k → 6 ≤ a → Heads t (putOwner k a t i v)
+owner-heads k a t i v l m = record { same = λ j n. put-owner-off k a t i v j (omega arith) (omega arith) }
 
 module _ (h : Sizes) (t : List ℕ) (c w : ℕ) where
   abbrev k : ℕ
@@ -85,12 +89,12 @@ module _ (x : Mem) where
   acted-stays c o (Enter r l k) = word-heads (head x) (x .table) c (encoded (Sparse r (l + 1)))
   acted-stays c o (Begin r) =
       let t = putWord (head x) (x .table) c (encoded (Sparse r 1)) in
-      heads-then (word-heads (head x) (x .table) c (encoded (Sparse r 1))) (set-heads t (rowOwnersAt (head x) + r) (c + 1) (omega arith))
+      heads-then (word-heads (head x) (x .table) c (encoded (Sparse r 1))) (owner-heads 9 (rowOwnersAt (head x)) t r (c + 1) (omega arith) (omega arith))
   acted-stays c o (Turn r l p) =
       let t = putWord (head x) (x .table) c (encoded (Dense p)) in
       let u = putRowOwner (head x) t r 0 in
-      heads-then (heads-then (word-heads (head x) (x .table) c (encoded (Dense p))) (set-heads t (rowOwnersAt (head x) + r) 0 (omega arith)))
-      (set-heads u (pageOwnersAt (head x) + p) (c + 1) (omega arith))
+      heads-then (heads-then (word-heads (head x) (x .table) c (encoded (Dense p))) (owner-heads 9 (rowOwnersAt (head x)) t r 0 (omega arith) (omega arith)))
+      (owner-heads 10 (pageOwnersAt (head x)) u p (c + 1) (omega arith) (omega arith))
 
   at-stays : (q : Split) → Stays (insertAt x q)
   at-stays (split.At c o) = acted-stays c o (insertPlan x c o)

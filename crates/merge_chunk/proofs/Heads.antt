@@ -13,10 +13,11 @@ use Rattle.layout.specs.Mem.{Mem}
 use Rattle.layout.specs.Sizes.{directAt, overStart, overAt, rowOwnersAt, pageOwnersAt, headerAt, head, overCount}
 use Rattle.layout.specs.Places.{encoded}
 use Rattle.layout.specs.Short.{lowerKey, keyAt, overPlace}
-use Rattle.layout.specs.Writes.{added, overPut, putWord, putRowOwner}
+use Rattle.layout.specs.Writes.{added, overPut, putWord, putOwner, putRowOwner}
 use Rattle.layout.specs.declared.place.Place.{Place}
 use Rattle.layout.specs.declared.place.Place.the-variants.{Absent, Sparse, Dense}
 use Rattle.layout.proofs.Added.{added-low}
+use Rattle.layout.proofs.Owners.{put-owner-off}
 use Rattle.steps.specs.Steps.{paged}
 use Rattle.calls.specs.Prepare.{intoPage}
 
@@ -40,6 +41,9 @@ same-six t u k = rw (k 0 (omega arith), k 1 (omega arith), k 2 (omega arith), k 
 
 head-set : (t : List ℕ) (i v : ℕ) → 16 ≤ i → headerAt (set t i v) ≡ headerAt t
 head-set t i v l = same-six t (set t i v) (λ j m. getD-set-other t i j v 0 (omega arith))
+
+head-owner : (k a : ℕ) (t : List ℕ) (i w : ℕ) → 6 ≤ k → 6 ≤ a → headerAt (putOwner k a t i w) ≡ headerAt t
+head-owner k a t i w l m = same-six t (putOwner k a t i w) (λ j n. put-owner-off k a t i w j (omega arith) (omega arith))
 
 module _ (h : Sizes) (t : List ℕ) (c w : ℕ) where
   abbrev at : ℕ
@@ -66,9 +70,9 @@ module _ (h : Sizes) (t : List ℕ) (c w : ℕ) where
 pub head-into : (h : Sizes) (x : Mem) (c p : ℕ) (o : Place) → head (intoPage h x c p o) ≡ head x
 unfolding paged
 head-into h x c p Absent =
-    head-set (putWord h (x .table) c (encoded (Dense p))) (pageOwnersAt h + p) (c + 1) (omega arith) ∙ head-word h (x .table) c (encoded (Dense p))
+    head-owner 10 (pageOwnersAt h) (putWord h (x .table) c (encoded (Dense p))) p (c + 1) (omega arith) (omega arith) ∙ head-word h (x .table) c (encoded (Dense p))
 head-into h x c p (Sparse r l) =
     let t = putWord h (x .table) c (encoded (Dense p)) in
-    head-set (putRowOwner h t r 0) (pageOwnersAt h + p) (c + 1) (omega arith) ∙ head-set t (rowOwnersAt h + r) 0 (omega arith)
+    head-owner 10 (pageOwnersAt h) (putRowOwner h t r 0) p (c + 1) (omega arith) (omega arith) ∙ head-owner 9 (rowOwnersAt h) t r 0 (omega arith) (omega arith)
     ∙ head-word h (x .table) c (encoded (Dense p))
 head-into h x c p (Dense q) = refl

@@ -11,8 +11,8 @@ use Rattle.document.specs.declared.sizes.Sizes.{Sizes}
 use Rattle.dense.specs.Bits.{withRow, orWords}
 use Rattle.layout.specs.Mem.{Mem, mem}
 use Rattle.layout.specs.Sizes.{wide, headerAt, head}
-use Rattle.layout.specs.Places.{pagePart, pageOwner}
-use Rattle.layout.specs.Free.{firstFree}
+use Rattle.layout.specs.Places.{pagePart}
+use Rattle.layout.specs.Free.{freePageIn}
 use Rattle.layout.specs.Writes.{putPage}
 use Rattle.layout.specs.declared.place.Place.{Place}
 use Rattle.layout.specs.declared.place.Place.the-variants.{Absent, Sparse, Dense}
@@ -132,9 +132,9 @@ module _ (h g : Sizes) (ps rs t sp sr : List ℕ) (c : ℕ) (o q : Place) (heade
       cond-no (unionDense x y o q && ltb (pageOf x o) (head x .p)) (joinedPage (intoPage (head x) x c (pageOf x o) o) y o (pageOf x o) q) x
       (ap (λ (i : Bool). i && ltb (pageOf x o) (head x .p)) (dense-is b sb st e ∙ n))
 
-  module _ (p : ℕ) (lowest : p ≡ firstFree (pageOwner h t) 0 (h .p)) (k : ℕ) (page : k ≡ pageOr o p) where
+  module _ (p : ℕ) (lowest : p ≡ freePageIn h t) (k : ℕ) (page : k ≡ pageOr o p) where
     page-is : (b : List ℕ) → k ≡ pageOf (mem ps rs b t) o
-    page-is b = page ∙ ap (pageOr o) (lowest ∙ ap (λ (f : Sizes). firstFree (pageOwner f t) 0 (f .p)) header) ∙ page-or-is (mem ps rs b t) o
+    page-is b = page ∙ ap (pageOr o) (lowest ∙ ap (λ (f : Sizes). freePageIn f t) header) ∙ page-or-is (mem ps rs b t) o
 
     test : (b : List ℕ) → ltb (pageOf (mem ps rs b t) o) (headerAt t .p) ≡ ltb k (h .p)
     test b = sym (ap₂ ltb (page-is b) (ap (λ (f : Sizes). f .p) header))

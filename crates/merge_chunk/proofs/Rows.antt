@@ -13,8 +13,8 @@ use Rattle.sparse.specs.Union.{union, onFront}
 use Rattle.document.specs.declared.sizes.Sizes.{Sizes}
 use Rattle.layout.specs.Mem.{mem}
 use Rattle.layout.specs.Sizes.{headerAt}
-use Rattle.layout.specs.Places.{encoded, rowPart, rowOwner}
-use Rattle.layout.specs.Free.{firstFree}
+use Rattle.layout.specs.Places.{encoded, rowPart}
+use Rattle.layout.specs.Free.{freeRowIn}
 use Rattle.layout.specs.Writes.{putWord, putRowOwner, putRow}
 use Rattle.layout.specs.declared.place.Place.{Place}
 use Rattle.layout.specs.declared.place.Place.the-variants.{Absent, Sparse}
@@ -39,11 +39,11 @@ fits-row h o r l f e =
 -- ---- chunk c, absent here: row r is the lowest free one
 
 module _ (h g : Sizes) (rs t sr : List ℕ) (c i k : ℕ) (header : h ≡ headerAt t) where
-  module _ (r : ℕ) (lowest : r ≡ firstFree (rowOwner h t) 0 (h .r)) where
-    low : r ≡ firstFree (rowOwner (headerAt t) t) 0 (headerAt t .r)
-    low = lowest ∙ ap (λ (f : Sizes). firstFree (rowOwner f t) 0 (f .r)) header
+  module _ (r : ℕ) (lowest : r ≡ freeRowIn h t) where
+    low : r ≡ freeRowIn (headerAt t) t
+    low = lowest ∙ ap (λ (f : Sizes). freeRowIn f t) header
 
-    test : ltb (firstFree (rowOwner (headerAt t) t) 0 (headerAt t .r)) (headerAt t .r) ≡ ltb r (h .r)
+    test : ltb (freeRowIn (headerAt t) t) (headerAt t .r) ≡ ltb r (h .r)
     test = sym (ap₂ ltb low (ap (λ (f : Sizes). f .r) header))
 
     pub take-none : h .r ≤ r → Sparsely rs t rs t sr g c Absent (Sparse i k)

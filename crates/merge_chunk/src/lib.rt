@@ -6,8 +6,8 @@ ghost use Prim.Native.Nat.{ℕ, _*_, _<_};
 ghost use lib.ListN.{length};
 ghost use Rattle.layout.specs.Mem.{mem};
 ghost use Rattle.layout.specs.Sizes.{headerAt};
-ghost use Rattle.layout.specs.Places.{pagePart, rowOwner, pageOwner};
-ghost use Rattle.layout.specs.Free.{firstFree};
+ghost use Rattle.layout.specs.Places.{pagePart};
+ghost use Rattle.layout.specs.Free.{freeRowIn, freePageIn};
 ghost use Rattle.layout.specs.Writes.{putPage};
 ghost use Rattle.layout.specs.declared.place.Place.the-variants.{Absent, Sparse, Dense};
 ghost use Rattle.calls.specs.Prepare.{intoPage};
@@ -117,7 +117,7 @@ pub fn densely(
     q: Place,
 )
     requires { ⌜ PagePools h g (length (now pages)) (length (now spages)) × RowPools h g (length (now rows)) (length (now srows))
-        × Turn h g (now table) c o q × (p ≡ firstFree (pageOwner h (now table)) 0 (h .p)) ⌝ }
+        × Turn h g (now table) c o q × (p ≡ freePageIn h (now table)) ⌝ }
     ensures { λ _. ⌜ Densely (now (pages .entry)) (now (rows .entry)) (now (table .entry))
         (now (pages .exit)) (now (rows .exit)) (now (table .exit)) (now (spages .entry)) (now (srows .entry)) g c o q ⌝ }
 {
@@ -147,7 +147,7 @@ fn take_row(
     k: u64,
 )
     requires { ⌜ RowPools h g (length (now rows)) (length (now srows)) × Turn h g (now table) c Absent (Sparse i k)
-        × (r ≡ firstFree (rowOwner h (now table)) 0 (h .r)) ⌝ }
+        × (r ≡ freeRowIn h (now table)) ⌝ }
     ensures { λ _. ⌜ Sparsely (now (rows .entry)) (now (table .entry)) (now (rows .exit)) (now (table .exit))
         (now (srows .entry)) g c Absent (Sparse i k) ⌝ }
 {
@@ -196,7 +196,7 @@ fn with_row(
     k: u64,
 )
     requires { ⌜ RowPools h g (length (now rows)) (length (now srows)) × Turn h g (now table) c o (Sparse i k)
-        × (r ≡ firstFree (rowOwner h (now table)) 0 (h .r)) ⌝ }
+        × (r ≡ freeRowIn h (now table)) ⌝ }
     ensures { λ _. ⌜ Sparsely (now (rows .entry)) (now (table .entry)) (now (rows .exit)) (now (table .exit))
         (now (srows .entry)) g c o (Sparse i k) ⌝ }
 {
@@ -220,7 +220,7 @@ pub fn sparsely(
     q: Place,
 )
     requires { ⌜ RowPools h g (length (now rows)) (length (now srows)) × Turn h g (now table) c o q
-        × (r ≡ firstFree (rowOwner h (now table)) 0 (h .r)) ⌝ }
+        × (r ≡ freeRowIn h (now table)) ⌝ }
     ensures { λ _. ⌜ Sparsely (now (rows .entry)) (now (table .entry)) (now (rows .exit)) (now (table .exit)) (now (srows .entry)) g c o q ⌝ }
 {
     match q {

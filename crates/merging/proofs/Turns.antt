@@ -10,12 +10,13 @@ use lib.Pow.{pow-mono}
 use Rattle.document.specs.Sizes.{InRange, lastChunk}
 use Rattle.document.specs.declared.sizes.Sizes.{Sizes}
 use Rattle.layout.specs.Mem.{Mem, mem}
-use Rattle.layout.specs.Sizes.{wide, headerAt, head, overCount}
+use Rattle.layout.specs.Sizes.{wide, headerAt, head, overCount, rowsFrom, pagesFrom}
+use Rattle.layout.specs.Places.{rowOwner, pageOwner}
+use Rattle.layout.specs.Follows.{FullTo}
 use Rattle.layout.specs.Entries.{entries, chunkAt}
 use Rattle.layout.specs.Free.{firstFree}
 use Rattle.layout.specs.declared.place.Place.{Place}
-use Rattle.calls.proofs.FirstFree.{first-free}
-use Rattle.calls.proofs.Cursor.{first-from}
+use Rattle.layout.proofs.FirstFree.{found-full, same-found}
 use Rattle.unions.specs.Union.{fits, standing, source, sourceChunk, sourceEntries, densely, sparsely}
 use Rattle.unions.specs.Joinable.{Joinable}
 use Rattle.unions.proofs.Standing.{chunk-in}
@@ -100,15 +101,20 @@ module _ {z y : Mem} (J : Joinable z y) (h g : Sizes) (eh : h ≡ head z) (eg : 
         chunk = subst (λ (k : Sizes). chunkAt k (y .table) e < 2 ^ 62) (sym eg) (omega arith);
       }
 
--- the lowest free slot of n, once those below p are taken
-module _ {owner : Sizes → List ℕ → ℕ → ℕ} {z y z′ : Mem} (T : Turned owner z y z′) (h : Sizes) (eh : h ≡ head z) (n p : ℕ) (low : p ≡ firstFree (owner h (z .table)) 0 n) where
-  pub slot-most : p ≤ n
-  slot-most = let a = first-free (owner h (z .table)) 0 n .high in omega arith
+  pub full-rows : FullTo (rowOwner h (z .table)) (h .r) (rowsFrom (z .table))
+  full-rows = subst (λ (k : Sizes). FullTo (rowOwner k (z .table)) (k .r) (rowsFrom (z .table))) (sym eh) (J .here .rows-from)
 
+  pub full-pages : FullTo (pageOwner h (z .table)) (h .p) (pagesFrom (z .table))
+  full-pages = subst (λ (k : Sizes). FullTo (pageOwner k (z .table)) (k .p) (pagesFrom (z .table))) (sym eh) (J .here .pages-from)
+
+-- the lowest free slot of n, once those below p are taken: it is looked for from p on, and the model looks from the header's word on
+module _ {owner : Sizes → List ℕ → ℕ → ℕ} {z y z′ : Mem} (T : Turned owner z y z′) (h : Sizes) (eh : h ≡ head z) (n : ℕ) {k k′ : ℕ}
+    (was : FullTo (owner h (z .table)) n k) (now : FullTo (owner h (z′ .table)) n k′) (p : ℕ) (low : p ≡ firstFree (owner h (z .table)) k (n - k)) where
   still : (j : ℕ) → owner h (z .table) j ≢ 0 → owner h (z′ .table) j ≢ 0
   still j = subst (λ (k : Sizes). owner k (z .table) j ≢ 0 → owner k (z′ .table) j ≢ 0) (sym eh) (T .taken j)
 
-  pub slot-next : (p′ : ℕ) → p′ ≡ firstFree (owner h (z′ .table)) p (n - p) → p′ ≡ firstFree (owner h (z′ .table)) 0 n
-  slot-next p′ e =
-      e ∙ first-from (owner h (z′ .table)) p n slot-most
-      (λ j l. still j (first-free (owner h (z .table)) 0 n .before j (omega arith) (omega arith)))
+  below : FullTo (owner h (z′ .table)) n p
+  below = let f = found-full was in record { within = let m = f .within in omega arith; owned = λ j l. still j (f .owned j (omega arith)) }
+
+  pub slot-next : (p′ : ℕ) → p′ ≡ firstFree (owner h (z′ .table)) p (n - p) → p′ ≡ firstFree (owner h (z′ .table)) k′ (n - k′)
+  slot-next p′ e = e ∙ same-found below now

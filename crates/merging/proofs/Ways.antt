@@ -11,21 +11,20 @@ use Rattle.layout.specs.Mem.{Mem, mem}
 use Rattle.layout.specs.Sizes.{headerAt, head}
 use Rattle.layout.specs.Places.{rowOwner, pageOwner}
 use Rattle.layout.specs.Entries.{entries}
-use Rattle.layout.specs.Free.{firstFree}
-use Rattle.calls.proofs.FirstFree.{first-free}
+use Rattle.layout.specs.Free.{firstFree, freeRowIn, freePageIn}
 use Rattle.unions.specs.Union.{sourceEntries, denseTo, sparseTo, unitedBy}
 use Rattle.unions.specs.Joinable.{Joinable}
 use Rattle.unions.proofs.Onward.{Turned, Kept, dense-turned, sparse-turned, dense-kept, sparse-kept}
 use Rattle.merge_slots.specs.Pools.{PagePools, RowPools}
 use Rattle.merging.specs.Ready.{Entry, Sound, RowsSound}
 use Rattle.merging.specs.Effects.{denselyAt, sparselyAt, DenseTurn, SparseTurn}
-use Rattle.merging.proofs.Turns.{page-pools, row-pools, entries-few, entry-ready, slot-next}
+use Rattle.merging.proofs.Turns.{page-pools, row-pools, entries-few, entry-ready, full-rows, full-pages, slot-next}
 
 -- ---- the first pass
 
 pub record DenseWay (h g : Sizes) (ps₀ rs₀ t₀ sp sr st ps rs t : List ℕ) (p e : ℕ) : Type 0 where
   pub turns : e ≤ entries g st
-  pub lowest : p ≡ firstFree (pageOwner h t) 0 (h .p)
+  pub lowest : p ≡ freePageIn h t
   pub pages-long : length ps ≡ length ps₀
   pub rows-long : length rs ≡ length rs₀
   pub table-long : length t ≡ length t₀
@@ -44,7 +43,7 @@ module _ (h g : Sizes) (ps₀ rs₀ t₀ sp sr st : List ℕ) (ok : Sound ps₀ 
   pub dense-range : InRange h
   dense-range = page-pools (ok .2) h g eh eg .here
 
-  pub dense-start : (p : ℕ) → p ≡ firstFree (pageOwner h t₀) 0 (h .p) → DenseWay h g ps₀ rs₀ t₀ sp sr st ps₀ rs₀ t₀ p 0
+  pub dense-start : (p : ℕ) → p ≡ freePageIn h t₀ → DenseWay h g ps₀ rs₀ t₀ sp sr st ps₀ rs₀ t₀ p 0
   unfolding denseTo
   dense-start p low = record { turns = omega arith; lowest = low; pages-long = refl; rows-long = refl; table-long = refl; same = λ b sb. refl }
 
@@ -62,12 +61,9 @@ module _ (h g : Sizes) (ps₀ rs₀ t₀ sp sr st : List ℕ) (ok : Sound ps₀ 
     header = eh ∙ sym (kept .sizes)
 
     pub dense-ready : e < entries g st
-        → PagePools h g (length ps) (length sp) × RowPools h g (length rs) (length sr) × Entry h g t st e × (p ≡ firstFree (pageOwner h t) 0 (h .p))
+        → PagePools h g (length ps) (length sp) × RowPools h g (length rs) (length sr) × Entry h g t st e × (p ≡ freePageIn h t)
     dense-ready l =
         (page-pools (kept .joins) h g header eg, row-pools (kept .joins) h g header eg, entry-ready (kept .joins) h g header eg e l, w .lowest)
-
-    pub dense-cursor : p ≤ 65536
-    dense-cursor = let a = first-free (pageOwner h t) 0 (h .p) .high in let b = dense-range .p-high in omega (arith, w .lowest)
 
     pub dense-more : e < entries g st → (ps′ rs′ t′ : List ℕ) (p′ : ℕ) → length ps′ ≡ length ps → length rs′ ≡ length rs → length t′ ≡ length t
         → DenseTurn ps rs t ps′ rs′ t′ sp sr st e → p′ ≡ firstFree (pageOwner h t′) p (h .p - p) → DenseWay h g ps₀ rs₀ t₀ sp sr st ps′ rs′ t′ p′ (e + 1)
@@ -78,7 +74,7 @@ module _ (h g : Sizes) (ps₀ rs₀ t₀ sp sr st : List ℕ) (ok : Sound ps₀ 
         subst (Turned pageOwner z y₀) (sym (turn (ok .0) (ok .1))) (dense-turned (kept .joins) e i) in
         record {
           turns = omega arith;
-          lowest = slot-next T h header (h .p) p (w .lowest) p′ low;
+          lowest = slot-next T h header (h .p) (full-pages (kept .joins) h g header eg) (full-pages (T .joins) h g (header ∙ sym (T .sizes)) eg) p (w .lowest) p′ low;
           pages-long = lp ∙ w .pages-long;
           rows-long = lr ∙ w .rows-long;
           table-long = lt ∙ w .table-long;
@@ -95,7 +91,7 @@ module _ (h g : Sizes) (ps₀ rs₀ t₀ sp sr st : List ℕ) (ok : Sound ps₀ 
 
 pub record SparseWay (h g : Sizes) (rs₀ t₀ sr st rs t : List ℕ) (r e : ℕ) : Type 0 where
   pub turns : e ≤ entries g st
-  pub lowest : r ≡ firstFree (rowOwner h t) 0 (h .r)
+  pub lowest : r ≡ freeRowIn h t
   pub rows-long : length rs ≡ length rs₀
   pub table-long : length t ≡ length t₀
   pub same : (p b sp sb : List ℕ) → mem p rs b t ≡ sparseTo (mem p rs₀ b t₀) (mem sp sr sb st) e
@@ -113,7 +109,7 @@ module _ (h g : Sizes) (rs₀ t₀ sr st : List ℕ) (ok : RowsSound rs₀ t₀ 
   pub sparse-range : InRange h
   sparse-range = row-pools (ok .4) h g eh eg .here
 
-  pub sparse-start : (r : ℕ) → r ≡ firstFree (rowOwner h t₀) 0 (h .r) → SparseWay h g rs₀ t₀ sr st rs₀ t₀ r 0
+  pub sparse-start : (r : ℕ) → r ≡ freeRowIn h t₀ → SparseWay h g rs₀ t₀ sr st rs₀ t₀ r 0
   unfolding sparseTo
   sparse-start r low = record { turns = omega arith; lowest = low; rows-long = refl; table-long = refl; same = λ p b sp sb. refl }
 
@@ -130,11 +126,8 @@ module _ (h g : Sizes) (rs₀ t₀ sr st : List ℕ) (ok : RowsSound rs₀ t₀ 
     sizes-are : h ≡ headerAt t
     sizes-are = eh ∙ sym (holds .sizes)
 
-    pub sparse-ready : e < entries g st → RowPools h g (length rs) (length sr) × Entry h g t st e × (r ≡ firstFree (rowOwner h t) 0 (h .r))
+    pub sparse-ready : e < entries g st → RowPools h g (length rs) (length sr) × Entry h g t st e × (r ≡ freeRowIn h t)
     sparse-ready l = (row-pools (holds .joins) h g sizes-are eg, entry-ready (holds .joins) h g sizes-are eg e l, w .lowest)
-
-    pub sparse-cursor : r ≤ 65536
-    sparse-cursor = let a = first-free (rowOwner h t) 0 (h .r) .high in let b = sparse-range .r-high in omega (arith, w .lowest)
 
     pub sparse-more : e < entries g st → (rs′ t′ : List ℕ) (r′ : ℕ) → length rs′ ≡ length rs → length t′ ≡ length t
         → SparseTurn rs t rs′ t′ sr st e → r′ ≡ firstFree (rowOwner h t′) r (h .r - r) → SparseWay h g rs₀ t₀ sr st rs′ t′ r′ (e + 1)
@@ -145,7 +138,7 @@ module _ (h g : Sizes) (rs₀ t₀ sr st : List ℕ) (ok : RowsSound rs₀ t₀ 
         subst (Turned rowOwner now there₀) (sym (turn (ok .0) (ok .2) (ok .1) (ok .3))) (sparse-turned (holds .joins) e i) in
         record {
           turns = omega arith;
-          lowest = slot-next T h sizes-are (h .r) r (w .lowest) r′ low;
+          lowest = slot-next T h sizes-are (h .r) (full-rows (holds .joins) h g sizes-are eg) (full-rows (T .joins) h g (sizes-are ∙ sym (T .sizes)) eg) r (w .lowest) r′ low;
           rows-long = lr ∙ w .rows-long;
           table-long = lt ∙ w .table-long;
           same = λ p b sp sb.

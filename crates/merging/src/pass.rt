@@ -5,8 +5,7 @@ ghost use Prim.Native.Nat.{ℕ};
 ghost use lib.ListN.{length};
 ghost use Rattle.layout.specs.Mem.{mem};
 ghost use Rattle.layout.specs.Sizes.{headerAt};
-ghost use Rattle.layout.specs.Places.{rowOwner, pageOwner};
-ghost use Rattle.layout.specs.Free.{firstFree};
+ghost use Rattle.layout.specs.Free.{freeRowIn, freePageIn};
 ghost use Rattle.unions.specs.Union.{sourceEntries, denseTo, sparseTo, unitedBy};
 ghost use Rattle.merge_slots.specs.Pools.{PagePools, RowPools};
 ghost use Rattle.merging.specs.Ready.{Entry, Sound, RowsSound};
@@ -31,7 +30,7 @@ fn dense_turn(
     e: u64,
 )
     requires { ⌜ PagePools h g (length (now pages)) (length (now spages)) × RowPools h g (length (now rows)) (length (now srows))
-        × Entry h g (now table) (now stable) e × (p ≡ firstFree (pageOwner h (now table)) 0 (h .p)) ⌝ }
+        × Entry h g (now table) (now stable) e × (p ≡ freePageIn h (now table)) ⌝ }
     ensures { λ _. ⌜ DenseTurn (now (pages .entry)) (now (rows .entry)) (now (table .entry)) (now (pages .exit)) (now (rows .exit)) (now (table .exit))
         (now (spages .entry)) (now (srows .entry)) (now (stable .entry)) e ⌝ }
 {
@@ -79,7 +78,7 @@ fn sparse_turn(
     e: u64,
 )
     requires { ⌜ RowPools h g (length (now rows)) (length (now srows)) × Entry h g (now table) (now stable) e
-        × (r ≡ firstFree (rowOwner h (now table)) 0 (h .r)) ⌝ }
+        × (r ≡ freeRowIn h (now table)) ⌝ }
     ensures { λ _. ⌜ SparseTurn (now (rows .entry)) (now (table .entry)) (now (rows .exit)) (now (table .exit))
         (now (srows .entry)) (now (stable .entry)) e ⌝ }
 {

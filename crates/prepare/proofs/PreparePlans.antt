@@ -20,7 +20,7 @@ use Rattle.sums.specs.Ids.{count}
 use Rattle.sums.proofs.Counts.{count-next}
 use Rattle.layout.specs.Mem.{Mem, mem}
 use Rattle.document.specs.Sizes.{InRange, top}
-use Rattle.layout.specs.Sizes.{blocksOf, head, modeAt, overCount}
+use Rattle.layout.specs.Sizes.{RoomIn, blocksOf, head, modeAt, overCount}
 use Rattle.layout.specs.Places.{hasPage}
 use Rattle.layout.specs.Entries.{entries, chunkAt, placeAt}
 use Rattle.layout.specs.Short.{overPlace}
@@ -31,6 +31,7 @@ use Rattle.layout.specs.declared.place.Place.{Place}
 use Rattle.document.specs.declared.answer.Outcome.{Outcome}
 use Rattle.document.specs.declared.answer.Outcome.the-variants.{Done, Refused}
 use Rattle.layout.proofs.Tests.{walked-of}
+use Rattle.layout_laws.proofs.Walked.{walked-beside}
 use Rattle.calls.specs.Prepare.{densedTo, overNeeded, pagesNeeded, prepareId, prepareBy}
 use Rattle.document.specs.Calls.{prepare, that}
 use Rattle.contracts.specs.Runs.{byOutcome}
@@ -199,28 +200,13 @@ id-made x (pos n) c e =
 id-made x (negsuc n) c e = absurd (not-nothing c e)
 
 -- whatever the block counts are
-walked-beside : (x : Mem) → Walked x (head x) → (b : List ℕ) → head x .p * blocksOf (head x) ≤ length b → Walked (mem (x .pages) (x .rows) b (x .table)) (head x)
-walked-beside x W b l =
-    let r = W .room in
-    record {
-      sizes = W .sizes;
-      room = record { in-pages = r .in-pages; in-rows = r .in-rows; in-blocks = l; in-table = r .in-table };
-      mode = W .mode;
-      unused = W .unused;
-      over-fits = W .over-fits;
-      keys = W .keys;
-      words = W .words;
-      spare = W .spare;
-      places = W .places;
-      rows-used = W .rows-used;
-      pages-used = W .pages-used;
-      rising = W .rising;
-      total = W .total;
-    }
+room-beside : (x : Mem) → Walked x (head x) → (b : List ℕ) → head x .p * blocksOf (head x) ≤ length b → RoomIn (head x) (mem (x .pages) (x .rows) b (x .table))
+room-beside x W b l = let r = W .room in record { in-pages = r .in-pages; in-rows = r .in-rows; in-blocks = l; in-table = r .in-table }
 
 pub made-sound : (x : Mem) (z : ℤ) (q : Preparation) (c : ℕ) → q ≡ planPrepare x z → q ≡ Make c → Sound (x .pages) (x .rows) (x .table) c
 unfolding planPrepare
 made-sound x z q c e f =
     let g = gate-made (walked x) (eqb (modeAt (x .table)) 1) (planId x z) c (sym e ∙ f) in
     let k = id-made x z c (g .2) in
-    λ b l. record { walks = walked-beside x (walked-of x .sound (g .0)) b l; mode = g .1; over = k .0; pages = k .1 }
+    let w = walked-of x .sound (g .0) in
+    λ b l. record { walks = walked-beside w (x .pages) (x .rows) b (room-beside x w b l); mode = g .1; over = k .0; pages = k .1 }

@@ -8,21 +8,20 @@ use lib.ListN.{length, replicate, length-replicate}
 use lib.Pow.{pow-mono}
 use Rattle.layout.specs.Mem.{Mem, mem}
 use Rattle.document.specs.Sizes.{InRange, lastChunk}
-use Rattle.layout.specs.Sizes.{blocksOf, head, headerAt}
+use Rattle.layout.specs.Sizes.{blocksOf, head, headerAt, pagesFrom}
 use Rattle.layout.specs.Places.{pageOwner}
 use Rattle.layout.specs.Entries.{placeOf}
-use Rattle.layout.specs.Follows.{Owned}
+use Rattle.layout.specs.Follows.{Owned, FullTo}
 use Rattle.document.specs.declared.sizes.Sizes.{Sizes}
 use Rattle.layout.specs.declared.place.Place.{Place}
 use Rattle.layout.specs.declared.place.Place.the-variants.{Absent, Sparse, Dense}
 use Rattle.layout_laws.proofs.Short.{word-in-is, owned-of}
-use Rattle.layout.specs.Free.{firstFree}
+use Rattle.layout.specs.Free.{firstFree, freePageIn}
 use Rattle.calls.specs.Prepare.{lowestPage, intoPage, densed, densedTo, HasRoom}
-use Rattle.calls.proofs.FirstFree.{first-free}
-use Rattle.calls.proofs.Reached.{Reached, place-free, turn-owner}
+use Rattle.layout.proofs.FirstFree.{found-full, same-found}
+use Rattle.calls.proofs.Reached.{Reached, place-free, reached-more, turn-owner}
 use Rattle.calls.proofs.PreparedDense.{room-far, room-over, room-pages, room-reached}
 use Rattle.prepare.specs.Ready.{Sound, RowInside, Turnable}
-use Rattle.calls.proofs.Cursor.{first-from}
 
 row-inside : (h : Sizes) (t : List ℕ) (c : ℕ) (q : Place) → Owned h t c q → RowInside h q
 row-inside h t c Absent o = tt
@@ -63,10 +62,14 @@ module _ (x : Mem) (c : ℕ) (a : HasRoom x c) (n : ℕ) (le : n ≤ c) (y : Mem
   -- the next free page lies at or after this one: the cursor of the loop is the model's lowest free page
   onward-here : firstFree (pageOwner (head y) (densed (head y) y n .table)) p (head y .p - p) ≡ lowestPage (head y) (densed (head y) y n)
   onward-here =
-      let first = first-free (pageOwner (head y) (y .table)) 0 (head y .p) in
-      first-from (pageOwner (head y) (densed (head y) y n .table)) p (head y .p) (let k = first .high in omega arith)
-      (λ j l e. first .before j (omega arith) l
-      (sym (turn-owner x (a .mode) c n le (room-far a) y s (room-over a) (room-pages a) j (omega arith)) ∙ e))
+      let z = densed (head y) y n in
+      let f = found-full (s .walked .pages-from) in
+      let r = reached-more x (a .mode) c n le (room-far a) y s (room-over a) (room-pages a) in
+      let below : FullTo (pageOwner (head y) (z .table)) (head y .p) p = record {
+        within = f .within;
+        owned = λ j l e. f .owned j l (sym (turn-owner x (a .mode) c n le (room-far a) y s (room-over a) (room-pages a) j (omega arith)) ∙ e);
+      } in
+      same-found below (subst (λ (h : Sizes). FullTo (pageOwner h (z .table)) (h .p) (pagesFrom (z .table))) (r .sizes ∙ sym (s .sizes)) (r .walked .pages-from))
 
   pub onward : firstFree (pageOwner (head x) (densed (head x) y n .table)) (lowestPage (head x) y) (head x .p - lowestPage (head x) y) ≡ lowestPage (head x) (densed (head x) y n)
   onward =
@@ -92,14 +95,14 @@ sound-range ps rs t c ok = has-room ps rs t c ok .walks .sizes
 pub record Underway (h : Sizes) (ps₀ rs₀ t₀ : List ℕ) (c : ℕ) (ps rs t : List ℕ) (p i : ℕ) : Type 0 where
   pub header : h ≡ headerAt t₀
   pub turns : i ≤ c + 1
-  pub lowest : p ≡ firstFree (pageOwner h t) 0 (h .p)
+  pub lowest : p ≡ freePageIn h t
   pub pages-long : length ps ≡ length ps₀
   pub rows-long : length rs ≡ length rs₀
   pub table-long : length t ≡ length t₀
   pub same : (b : List ℕ) → mem ps rs b t ≡ densedTo (headerAt t₀) (mem ps₀ rs₀ b t₀) i
 
 module _ (h : Sizes) (ps₀ rs₀ t₀ : List ℕ) (c : ℕ) where
-  pub underway-none : h ≡ headerAt t₀ → (p : ℕ) → p ≡ firstFree (pageOwner h t₀) 0 (h .p) → Underway h ps₀ rs₀ t₀ c ps₀ rs₀ t₀ p 0
+  pub underway-none : h ≡ headerAt t₀ → (p : ℕ) → p ≡ freePageIn h t₀ → Underway h ps₀ rs₀ t₀ c ps₀ rs₀ t₀ p 0
   unfolding densedTo
   underway-none e p f = record { header = e; turns = omega arith; lowest = f; pages-long = refl; rows-long = refl; table-long = refl; same = λ b. refl }
 
@@ -119,22 +122,13 @@ module _ (h : Sizes) (ps₀ rs₀ t₀ : List ℕ) (c : ℕ) where
     reached = subst (Reached (mem ps₀ rs₀ (blocksFor t₀) t₀) i) (sym (s .same (blocksFor t₀))) (room-reached (has-room ps₀ rs₀ t₀ c ok) i (s .turns))
 
     lowest : p ≡ lowestPage (headerAt t₀) (mem ps rs (blocksFor t₀) t)
-    lowest = s .lowest ∙ ap (λ (g : Sizes). firstFree (pageOwner g t) 0 (g .p)) (s .header)
+    lowest = s .lowest ∙ ap (λ (g : Sizes). freePageIn g t) (s .header)
 
     pub underway-turn : i ≤ c → Turnable h ps rs t i p
     unfolding x₀ x
     underway-turn l =
         subst (λ (g : Sizes). Turnable g ps rs t i p) (sym (s .header))
         (subst (Turnable (headerAt t₀) ps rs t i) (sym lowest) (turnable (mem ps₀ rs₀ (blocksFor t₀) t₀) c room i l (mem ps rs (blocksFor t₀) t) reached))
-
-    -- the cursor is a page, or the one past them
-    pub underway-cursor : p ≤ 65536
-    unfolding x₀
-    underway-cursor =
-        let e = lowest in
-        let a = first-free (pageOwner (headerAt t₀) t) 0 (headerAt t₀ .p) .high in
-        let b = room .walks .sizes .p-high in
-        omega arith
 
     pub underway-more : i ≤ c → (ps′ rs′ t′ : List ℕ) (p′ : ℕ) → length ps′ ≡ length ps → length rs′ ≡ length rs → length t′ ≡ length t
         → ((b : List ℕ) → mem ps′ rs′ b t′ ≡ intoPage h (mem ps rs b t) i p (placeOf h t i)) → p′ ≡ firstFree (pageOwner h t′) p (h .p - p)
@@ -152,7 +146,7 @@ module _ (h : Sizes) (ps₀ rs₀ t₀ : List ℕ) (c : ℕ) where
               f ∙ ap₂ (λ (k : Sizes) (q : ℕ). firstFree (pageOwner k t′) q (k .p - q)) (s .header) lowest
               ∙ subst (λ (z : Mem). firstFree (pageOwner g (z .table)) (lowestPage g y) (g .p - lowestPage g y) ≡ lowestPage g z)
               (sym (turn (blocksFor t₀))) (onward (mem ps₀ rs₀ (blocksFor t₀) t₀) c room i l y reached)
-              ∙ ap (λ (k : Sizes). firstFree (pageOwner k t′) 0 (k .p)) (sym (s .header));
+              ∙ ap (λ (k : Sizes). freePageIn k t′) (sym (s .header));
           pages-long = lp ∙ s .pages-long;
           rows-long = lr ∙ s .rows-long;
           table-long = lt ∙ s .table-long;

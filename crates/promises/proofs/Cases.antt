@@ -26,13 +26,14 @@ use Rattle.layout.specs.Places.{rowOwner, pageOwner}
 use Rattle.layout.specs.Entries.{chunkAt, wordAt, prefixAt, beside, wordOf}
 use Rattle.layout.specs.Meaning.{kinds, stateOf}
 use Rattle.layout.specs.Follows.{membersAt}
-use Rattle.layout.specs.Tests.{inRange, roomy, zeroAt, zeros, keyIs, wordIs, overIs, placeIs, ownersAre, prefixAfter, prefixRises, ranksRise, entriesAre, headIs, tableIs, walked}
+use Rattle.layout.specs.Tests.{inRange, roomy, zeroAt, zeros, keyIs, wordIs, overIs, placeIs, ownersAre, prefixAfter, prefixRises, ranksRise, fromsAre, entriesAre, headIs, tableIs, walked}
 use Rattle.layout.specs.SetUp.{zeroed, freshTable, fresh as emptied, setUpBy}
 use Rattle.layout.specs.Short.{lowerKey, wordIn, spotOf}
 use Rattle.layout.proofs.Tests.{range-of, room-of}
-use Rattle.layout.specs.Writes.{putPart, added, putWord}
+use Rattle.layout.specs.Writes.{putPart, added, putWord, putOwner}
 use Rattle.steps.specs.Steps.{rowed, paged}
-use Rattle.calls.specs.Insert.{firstFree, insertPlan, insertBy, preparedPlan, preparedBy}
+use Rattle.layout.specs.Free.{firstFree}
+use Rattle.calls.specs.Insert.{insertPlan, insertBy, preparedPlan, preparedBy}
 use Rattle.calls.specs.Prepare.{densedTo, overNeeded, pagesNeeded, prepareBy}
 use Rattle.calls.specs.Range.{entryFrom, anyEntry, anyRun, anyFrom, anyBy}
 use Rattle.calls.specs.Counts.{goodAt, sizeBy, usedAt, partsOk, lenBy, hasAnyBy, chunksBy}
@@ -200,7 +201,7 @@ all-say [] u = tt
 all-say (c ∷ cs) u = let b = both (proper c) (allProper cs) u in (computed-says c (b .0), all-say cs (b .1))
 
 table-computed : allComputed memoryRows ≡ memoryRows
-unfolding sumTo count allTo bit isSet bitsTo withBit withRow lowerIn lowerOf searchIn foundIn spotIn anyIn insertedAt inRange roomy zeroAt zeros keyIs wordIs overIs placeIs ownersAre prefixAfter prefixRises ranksRise entriesAre headIs tableIs walked kinds wordOf beside chunkAt wordAt prefixAt membersAt lowerKey wordIn spotOf zeroed freshTable emptied setUpBy putPart added putWord rowed paged firstFree insertPlan insertBy preparedPlan preparedBy densedTo overNeeded pagesNeeded prepareBy goodAt sizeBy usedAt partsOk lenBy hasAnyBy prefixed blocked blockedTo toRanked rankUpBy seatIn rankBy rankIfBy entryFrom anyEntry anyRun anyFrom anyBy chunksBy membersIn plus fill offsetsAt offsetsFrom fillEntry fillRun fillFrom iterBy copied mergedHead merged union onFront standing source newEntry newRow freedRow newPage judged denseTo sparseTo unitedBy unionPlan unionBy
+unfolding sumTo count allTo bit isSet bitsTo withBit withRow lowerIn lowerOf searchIn foundIn spotIn anyIn insertedAt inRange roomy zeroAt zeros keyIs wordIs overIs placeIs ownersAre prefixAfter prefixRises ranksRise fromsAre entriesAre headIs tableIs walked kinds wordOf beside chunkAt wordAt prefixAt membersAt lowerKey wordIn spotOf zeroed freshTable emptied setUpBy putPart added putWord putOwner rowed paged firstFree insertPlan insertBy preparedPlan preparedBy densedTo overNeeded pagesNeeded prepareBy goodAt sizeBy usedAt partsOk lenBy hasAnyBy prefixed blocked blockedTo toRanked rankUpBy seatIn rankBy rankIfBy entryFrom anyEntry anyRun anyFrom anyBy chunksBy membersIn plus fill offsetsAt offsetsFrom fillEntry fillRun fillFrom iterBy copied mergedHead merged union onFront standing source newEntry newRow freedRow newPage judged denseTo sparseTo unitedBy unionPlan unionBy
 table-computed = refl
 
 table-proper : allProper memoryRows ≡ true

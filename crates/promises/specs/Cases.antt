@@ -167,11 +167,11 @@ destination = holding (0 ∷ 1 ∷ 2 ∷ 3 ∷ 512 ∷ [])
 abbrev source : Past
 source = holding (4 ∷ 1024 ∷ [])
 
--- the destination's memory after case l: 0 to 4 in page 0, 1024 in row 0, 512 in row 1; header, chunks 0, 1, 2, owners
+-- the destination's memory after case l: 0 to 4 in page 0, 1024 in row 0, 512 in row 1; header (row 0 was freed and taken), chunks 0, 1, 2, owners
 abbrev memoryL : Mem
 memoryL =
     mem (31 ∷ replicate 7 0) (replicate 8 0) (replicate 1 0)
-    ((9 ∷ 4 ∷ 2 ∷ 1 ∷ 2 ∷ 1 ∷ 0 ∷ 1 ∷ replicate 8 0)
+    ((9 ∷ 4 ∷ 2 ∷ 1 ∷ 2 ∷ 1 ∷ 0 ∷ 1 ∷ 0 ∷ 1 ∷ 1 ∷ replicate 5 0)
     ++ (encoded (Dense 0) ∷ 0 ∷ encoded (Sparse 1 1) ∷ 0 ∷ 2 ∷ encoded (Sparse 0 1) ∷ 0 ∷ [])
     ++ (3 ∷ 2 ∷ 1 ∷ []))
 

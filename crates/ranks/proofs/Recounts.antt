@@ -15,6 +15,7 @@ use Rattle.dense.specs.Bits.{bitsTo}
 use Rattle.layout.specs.Mem.{Mem, mem}
 use Rattle.document.specs.Sizes.{top}
 use Rattle.layout.specs.Sizes.{blocksOf, overAt, rowOwnersAt, pageOwnersAt, headerAt, head, overCount}
+use Rattle.layout.proofs.Owners.{full-same}
 use Rattle.layout.specs.Places.{decoded, hasRow, hasPage, pagePart, rowOwner, pageOwner}
 use Rattle.layout.specs.Entries.{entries, chunkAt, wordAt, placeAt, beside, wordOf, placeOf}
 use Rattle.layout.specs.Meaning.{offsets, holds, kindOf, kinds, ranked}
@@ -118,7 +119,7 @@ module _ {h : Sizes} {x : Mem} {b : Bool} {bl u : List ℕ} (r : Recount h x b b
           sizes = w .sizes;
           room = record { in-pages = d .in-pages; in-rows = d .in-rows; in-blocks = omega arith; in-table = omega arith };
           mode = omega arith;
-          unused = λ i l. r .told .header (9 + i) (omega arith) (omega arith) (omega arith) ∙ w .unused i l;
+          unused = λ i l. r .told .header (11 + i) (omega arith) (omega arith) (omega arith) ∙ w .unused i l;
           over-fits = omega arith;
           keys = λ j l. key j (omega arith);
           words = λ j l q. w .words j (omega arith) (sym (r .told .over-words j) ∙ q);
@@ -132,6 +133,8 @@ module _ {h : Sizes} {x : Mem} {b : Bool} {bl u : List ℕ} (r : Recount h x b b
           prefixes = λ e l. r .told .prefixes e (omega arith) ∙ kept-is (sumTo (membersAt h x) e) (sumTo (membersAt h y) e) (sym (sum-same e));
           total = r .told .total ∙ kept-is (sumTo (membersAt h x) (entries h (x .table))) (sumTo (membersAt h y) (entries h u)) (sym (sum-same (entries h u) ∙ ap (sumTo (membersAt h x)) entries-same));
           blocks = λ p i l j. r .blocks p i l j ∙ kept-is (bitsTo (pagePart h (x .pages) p) (512 * i)) (bitsTo (pagePart h (x .pages) p) (512 * i)) refl;
+          rows-from = full-same (w .rows-from) (r .told .header 9 (omega arith) (omega arith) (omega arith)) (λ j l. row-owner-same j);
+          pages-from = full-same (w .pages-from) (r .told .header 10 (omega arith) (omega arith) (omega arith)) (λ j l. page-owner-same j);
         }
       where
         key : (j : ℕ) → j < overCount (x .table) → Key h u j

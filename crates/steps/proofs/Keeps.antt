@@ -100,6 +100,8 @@ module _ (h : Sizes) (x y : Mem) (c w : ℕ) (L : Laid x h) (mode : ranked x ≡
         blocks = λ p b l k.
             ap (λ (u : List ℕ). getD u (p * blocksOf h + b) 0) (m .blocks) ∙ L .blocks p b l k ∙ kept-none x (bitsTo (pagePart h (x .pages) p) (512 * b)) mode
             ∙ sym (kept-none y (bitsTo (pagePart h (y .pages) p) (512 * b)) is-open);
+        rows-from = after .rows-from;
+        pages-from = after .pages-from;
       }
 
   pub offsets-step-off : (i : ℕ) → i ≢ c → (o : ℕ) → offsets h y (placeOf h (y .table) i) o ≡ offsets h x (placeOf h (x .table) i) o

@@ -12,11 +12,11 @@ use Rattle.sums.specs.Ids.{count}
 use Rattle.sparse.specs.Row.{Rising}
 use Rattle.layout.specs.Mem.{Mem}
 use Rattle.document.specs.Sizes.{lastChunk}
-use Rattle.layout.specs.Sizes.{overAt, head, modeAt, overCount}
+use Rattle.layout.specs.Sizes.{overAt, head, modeAt, overCount, rowsFrom, pagesFrom}
 use Rattle.layout.specs.Places.{decoded, hasRow, hasPage, rowPart, pagePart, rowOwner, pageOwner}
 use Rattle.layout.specs.Entries.{entries, chunkAt, wordAt, placeAt, wordOf, placeOf}
 use Rattle.layout.specs.Meaning.{kindOf, kinds, ranked}
-use Rattle.layout.specs.Follows.{AllZero, Key, Owned}
+use Rattle.layout.specs.Follows.{AllZero, Key, Owned, FullTo}
 use Rattle.layout.specs.Tests.{rowsOwned, pagesOwned, Walked}
 use Rattle.document.specs.declared.sizes.Sizes.{Sizes}
 use Rattle.layout.specs.declared.place.Place.{Place}
@@ -43,6 +43,8 @@ pub record Moved (h : Sizes) (x y : Mem) (c w : ℕ) : Type 0 where
   pub others : (i : ℕ) (q : Place) → i ≢ c → Owned h (x .table) i q → Untouched h x y q
   pub rows-used : rowsOwned h (y .table) + boolByte (hasRow (placeOf h (x .table) c)) ≡ rowsOwned h (x .table) + boolByte (hasRow (decoded w))
   pub pages-used : pagesOwned h (y .table) + boolByte (hasPage (placeOf h (x .table) c)) ≡ pagesOwned h (x .table) + boolByte (hasPage (decoded w))
+  pub rows-from : FullTo (rowOwner h (y .table)) (h .r) (rowsFrom (y .table))
+  pub pages-from : FullTo (pageOwner h (y .table)) (h .p) (pagesFrom (y .table))
 
 -- ---- an untouched place
 
@@ -134,7 +136,7 @@ module _ (h : Sizes) (x y : Mem) (c w : ℕ) (W : Walked x h) (mode : ranked x �
               in-table = let r = W .room .in-table in omega arith;
             };
         mode = let r = W .mode in omega arith;
-        unused = λ i l. s .wrote .header (9 + i) (omega arith) (omega arith) ∙ W .unused i l;
+        unused = λ i l. s .wrote .unused i l ∙ W .unused i l;
         over-fits = s .wrote .fits;
         keys = key-after;
         words = word-after;
@@ -144,6 +146,8 @@ module _ (h : Sizes) (x y : Mem) (c w : ℕ) (W : Walked x h) (mode : ranked x �
         pages-used = omega (arith, count-after hasPage refl, s .pages-used, W .pages-used);
         rising = λ e. absurd (not-ranked e);
         total = λ e. absurd (not-ranked e);
+        rows-from = s .rows-from;
+        pages-from = s .pages-from;
       }
 
   -- ---- places, by chunk id

@@ -11,7 +11,7 @@ use Rattle.sums.specs.Ids.{count}
 use Rattle.sparse.specs.Row.{Rising}
 use Rattle.document.specs.Sizes.{lastChunk}
 use Rattle.layout.specs.Mem.{Mem}
-use Rattle.layout.specs.Sizes.{tableSize, rowOwnersAt, pageOwnersAt, overCount}
+use Rattle.layout.specs.Sizes.{tableSize, overCount}
 use Rattle.layout.specs.Places.{decoded, encoded}
 use Rattle.layout.specs.Entries.{entries, chunkAt, wordOf, placeOf}
 use Rattle.layout.specs.Follows.{Key}
@@ -23,7 +23,7 @@ use Rattle.layout_laws.proofs.Entries.{Ordered, chunk-over, chunk-below, chunk-
 use Rattle.layout_laws.proofs.Crowds.{rising-least}
 use Rattle.steps.specs.Steps.{leftOwner, paged}
 use Rattle.steps.proofs.Puts.{put-rising, put-all, put-sum, put-beside, put-beside-off}
-use Rattle.steps.proofs.Table.{runOf, Wrote, owner-set}
+use Rattle.steps.proofs.Table.{runOf, Wrote, row-owner-set, page-owner-set}
 use Rattle.steps.proofs.Words.{put-word}
 
 module _ (h : Sizes) (t t′ : List ℕ) (c w : ℕ) (o : Ordered h t) (u : Wrote h t t′ c w) where
@@ -68,7 +68,7 @@ module _ (h : Sizes) (t t′ : List ℕ) (c w : ℕ) (o : Ordered h t) (u : Wrot
 module _ (h : Sizes) (t : List ℕ) (c w : ℕ) where
   left-wrote : (u : List ℕ) → Wrote h t u c w → (q : Place) → Wrote h t (leftOwner h u q) c w
   left-wrote u z Absent = z
-  left-wrote u z (Sparse r l) = owner-set h t u c w (rowOwnersAt h + r) 0 z (omega arith)
+  left-wrote u z (Sparse r l) = row-owner-set h t u c w z r 0
   left-wrote u z (Dense p) = z
 
 pub paged-wrote : (h : Sizes) (x : Mem) → Ordered h (x .table) → tableSize h ≤ length (x .table) → overCount (x .table) ≤ h .v → (c : ℕ)
@@ -79,4 +79,4 @@ paged-wrote h x o room fits c free old p page =
     let t = x .table in
     let w = encoded (Dense p) in
     let u = putWord h t c w in
-    owner-set h t (leftOwner h u old) c w (pageOwnersAt h + p) (c + 1) (left-wrote h t c w u (put-word h t o room fits c w free .wrote) old) (omega arith)
+    page-owner-set h t (leftOwner h u old) c w (left-wrote h t c w u (put-word h t o room fits c w free .wrote) old) p (c + 1)

@@ -5,18 +5,17 @@ use mathlib.Core.List.{List}
 use mathlib.Core.Bool.{not}
 use Prim.Native.Nat.{ℕ, _+_, _-_, _*_, _≤_, _<_}
 use native.Mathlib.Omega.{arith}
-use lib.ListN.{length, set, length-replicate}
-use lib.Seq.{getD-set-same, getD-set-other}
+use lib.ListN.{length, length-replicate}
 use lib.Dec.{eqb}
 use mir.Val.{boolByte}
 use Rattle.sums.proofs.Counts.{count-ext}
 use Rattle.dense.specs.Bits.{isSet}
 use Rattle.layout.specs.Mem.{Mem}
-use Rattle.layout.specs.Sizes.{wide, rowOwnersAt, pageOwnersAt, head, overCount}
+use Rattle.layout.specs.Sizes.{wide, rowOwnersAt, pageOwnersAt, head, overCount, rowsFrom, pagesFrom}
 use Rattle.layout.specs.Places.{decoded, encoded, hasRow, hasPage, rowPart, rowOwner, pageOwner}
 use Rattle.layout.specs.Entries.{entries, chunkAt, placeOf}
 use Rattle.layout.specs.Meaning.{offsets}
-use Rattle.layout.specs.Follows.{AllZero, OwnsRow, Owned, RowListed, Laid}
+use Rattle.layout.specs.Follows.{AllZero, OwnsRow, Owned, RowListed, FullTo, Laid}
 use Rattle.layout.specs.Tests.{rowsOwned, pagesOwned, Walked}
 use Rattle.document.specs.declared.sizes.Sizes.{Sizes}
 use Rattle.layout.specs.declared.place.Place.{Place}
@@ -26,12 +25,13 @@ use Rattle.layout_laws.proofs.Entries.{walked-ordered}
 use Rattle.layout_laws.proofs.Owners.{page-of}
 use Rattle.layout_laws.proofs.Short.{owned-of}
 use Rattle.layout_laws.proofs.Walked.{laid-walked}
-use Rattle.layout.specs.Writes.{putPart, putWord, putRowOwner}
+use Rattle.layout.specs.Writes.{putPart, putWord, putRowOwner, putPageOwner}
 use Rattle.steps.specs.Steps.{leftOwner, leftRow, paged}
 use Rattle.steps.specs.Effects.{PageFor, new-page, own-page, PagedOk, Becomes}
 use Rattle.layout.proofs.Parts.{slot-in, length-put, slot-put, slot-kept, zero-kept, zero-put}
 use Rattle.layout.proofs.Added.{same-or}
-use Rattle.steps.proofs.Table.{Wrote, Worded, owner-set}
+use Rattle.layout.proofs.Owners.{full-same, put-owner-off, put-owner-here, put-owner-full}
+use Rattle.steps.proofs.Table.{Wrote, Worded, row-owner-set, page-owner-set}
 use Rattle.steps.proofs.Words.{put-word}
 use Rattle.steps.proofs.Slots.{entry-free, entry-none, taken, not-taken, used-change}
 use Rattle.steps.proofs.Moves.{Untouched, Moved}
@@ -45,7 +45,7 @@ module _ (h : Sizes) (x : Mem) (W : Walked x h) (c w : ℕ) (u : List ℕ) (word
 
   left-wrote : (q : Place) → Wrote h (x .table) (leftOwner h u q) c w
   left-wrote Absent = worded .wrote
-  left-wrote (Sparse r l) = owner-set h (x .table) u c w (rowOwnersAt h + r) 0 (worded .wrote) (omega arith)
+  left-wrote (Sparse r l) = row-owner-set h (x .table) u c w (worded .wrote) r 0
   left-wrote (Dense p) = worded .wrote
 
   left-rows-long : (q : Place) → Owned h (x .table) c q → length (leftRow h (x .rows) q) ≡ length (x .rows)
@@ -57,17 +57,17 @@ module _ (h : Sizes) (x : Mem) (W : Walked x h) (c w : ℕ) (u : List ℕ) (word
   left-page Absent o p = worded .owners (pageOwnersAt h + p) (omega arith)
   left-page (Sparse r l) o p =
       let k = o .there in
-      getD-set-other u (rowOwnersAt h + r) (pageOwnersAt h + p) 0 0 (omega arith) ∙ worded .owners (pageOwnersAt h + p) (omega arith)
+      put-owner-off 9 (rowOwnersAt h) u r 0 (pageOwnersAt h + p) (omega arith) (omega arith) ∙ worded .owners (pageOwnersAt h + p) (omega arith)
   left-page (Dense j) o p = worded .owners (pageOwnersAt h + p) (omega arith)
 
   row-same : (j : ℕ) → rowOwner h u j ≡ rowOwner h (x .table) j
   row-same j = worded .owners (rowOwnersAt h + j) (omega arith)
 
   left-off : (r j : ℕ) → j ≢ r → rowOwner h (putRowOwner h u r 0) j ≡ rowOwner h (x .table) j
-  left-off r j d = getD-set-other u (rowOwnersAt h + r) (rowOwnersAt h + j) 0 0 (omega arith) ∙ row-same j
+  left-off r j d = put-owner-off 9 (rowOwnersAt h) u r 0 (rowOwnersAt h + j) (omega arith) (omega arith) ∙ row-same j
 
   left-here : (r : ℕ) → r < h .r → rowOwner h (putRowOwner h u r 0) r ≡ 0
-  left-here r l = getD-set-same u (rowOwnersAt h + r) 0 0 (let n = worded .wrote .len in let m = W .room .in-table in omega arith)
+  left-here r l = put-owner-here 9 (rowOwnersAt h) u r 0 (omega arith) (let n = worded .wrote .len in let m = W .room .in-table in omega arith)
 
   -- it is no other chunk's
   left-other : (q : Place) → Owned h (x .table) c q → (i j k : ℕ) → i ≢ c → OwnsRow h (x .table) i j k →
@@ -100,6 +100,23 @@ module _ (h : Sizes) (x : Mem) (W : Walked x h) (c w : ℕ) (u : List ℕ) (word
       omega (arith, taken (rowOwner h (x .table) r) c (o .owner), not-taken (rowOwner h (putRowOwner h u r 0) r) (left-here r (o .there)))
   left-count (Dense p) o = let a = rows-alike u (λ j m. row-same j) in omega arith
 
+  rows-full : FullTo (rowOwner h u) (h .r) (rowsFrom u)
+  rows-full = full-same (W .rows-from) (worded .froms 9 (omega arith) (omega arith)) (λ j l. row-same j)
+
+  -- a row that is left lowers the word
+  left-full : (q : Place) → Owned h (x .table) c q → FullTo (rowOwner h (leftOwner h u q)) (h .r) (rowsFrom (leftOwner h u q))
+  left-full Absent o = rows-full
+  left-full (Sparse r l) o =
+      let n = worded .wrote .len in
+      let m = W .room .in-table in
+      put-owner-full 9 (rowOwnersAt h) u r 0 (h .r) (omega arith) (o .there) (omega arith) rows-full (λ d. absurd (d refl))
+  left-full (Dense p) o = rows-full
+
+  left-from : (q : Place) → pagesFrom (leftOwner h u q) ≡ pagesFrom (x .table)
+  left-from Absent = worded .froms 10 (omega arith) (omega arith)
+  left-from (Sparse r l) = put-owner-off 9 (rowOwnersAt h) u r 0 10 (omega arith) (omega arith) ∙ worded .froms 10 (omega arith) (omega arith)
+  left-from (Dense p) = worded .froms 10 (omega arith) (omega arith)
+
 -- ---- the step
 
 module _ (h : Sizes) (x : Mem) (W : Walked x h) (c : ℕ) (old : Place) (p : ℕ) (page : List ℕ) (old-is : old ≡ placeOf h (x .table) c) (there : p < h .p)
@@ -128,7 +145,7 @@ module _ (h : Sizes) (x : Mem) (W : Walked x h) (c : ℕ) (old : Place) (p : ℕ
   y : Mem
   y = paged h x c old p page
 
-  table-is : y .table ≡ set (leftOwner h t old) (pageOwnersAt h + p) (c + 1)
+  table-is : y .table ≡ putPageOwner h (leftOwner h t old) p (c + 1)
   unfolding y t w paged
   table-is = refl
 
@@ -136,16 +153,16 @@ module _ (h : Sizes) (x : Mem) (W : Walked x h) (c : ℕ) (old : Place) (p : ℕ
   inside = let n = left-wrote h x W c w t worded old .len in let m = W .room .in-table in omega arith
 
   owner-here : pageOwner h (y .table) p ≡ c + 1
-  owner-here = ap (λ (u : List ℕ). pageOwner h u p) table-is ∙ getD-set-same (leftOwner h t old) (pageOwnersAt h + p) (c + 1) 0 inside
+  owner-here = ap (λ (u : List ℕ). pageOwner h u p) table-is ∙ put-owner-here 10 (pageOwnersAt h) (leftOwner h t old) p (c + 1) (omega arith) inside
 
   page-off : (j : ℕ) → j ≢ p → pageOwner h (y .table) j ≡ pageOwner h (x .table) j
   page-off j d =
       ap (λ (u : List ℕ). pageOwner h u j) table-is
-      ∙ getD-set-other (leftOwner h t old) (pageOwnersAt h + p) (pageOwnersAt h + j) (c + 1) 0 (omega arith)
+      ∙ put-owner-off 10 (pageOwnersAt h) (leftOwner h t old) p (c + 1) (pageOwnersAt h + j) (omega arith) (omega arith)
       ∙ left-page h x W c w t worded old mine j
 
   row-left : (j : ℕ) → j < h .r → rowOwner h (y .table) j ≡ rowOwner h (leftOwner h t old) j
-  row-left j m = ap (λ (u : List ℕ). rowOwner h u j) table-is ∙ getD-set-other (leftOwner h t old) (pageOwnersAt h + p) (rowOwnersAt h + j) (c + 1) 0 (omega arith)
+  row-left j m = ap (λ (u : List ℕ). rowOwner h u j) table-is ∙ put-owner-off 10 (pageOwnersAt h) (leftOwner h t old) p (c + 1) (rowOwnersAt h + j) (omega arith) (omega arith)
 
   room : p * wide h + wide h ≤ length (x .pages)
   room = slot-in (wide h) (h .p) p (length (x .pages)) there (W .room .in-pages)
@@ -158,7 +175,7 @@ module _ (h : Sizes) (x : Mem) (W : Walked x h) (c : ℕ) (old : Place) (p : ℕ
   owner-was i d e = go came
     where
       go : PageFor h (x .table) c old p → ⊥
-      go (new-page n o f) = omega arith
+      go (new-page n o f) = let z = o .free in omega arith
       go (own-page q) = let o = own-owner q in d (omega arith)
 
   others : (i : ℕ) (q : Place) → i ≢ c → Owned h (x .table) i q → Untouched h x y q
@@ -189,16 +206,41 @@ module _ (h : Sizes) (x : Mem) (W : Walked x h) (c : ℕ) (old : Place) (p : ℕ
       go (new-page n o f) =
           let a = ap (λ (q : Place). boolByte (hasPage q)) old-is in
           let b = ap boolByte n in
-          omega (arith, pages-change, not-taken (pageOwner h (x .table) p) o)
+          omega (arith, pages-change, not-taken (pageOwner h (x .table) p) (o .free))
       go (own-page q) =
           let a = ap (λ (q : Place). boolByte (hasPage q)) (sym old-is ∙ q) in
           omega (arith, pages-change, taken (pageOwner h (x .table) p) c (own-owner q))
+
+  -- ---- nothing below the header's words is free
+
+  rows-full-after : FullTo (rowOwner h (y .table)) (h .r) (rowsFrom (y .table))
+  rows-full-after =
+      full-same (left-full h x W c w t worded old mine)
+      (ap (λ (u : List ℕ). rowsFrom u) table-is ∙ put-owner-off 10 (pageOwnersAt h) (leftOwner h t old) p (c + 1) 9 (omega arith) (omega arith)) row-left
+
+  pages-lower : pageOwner h (x .table) p ≡ 0 → (j : ℕ) → j < p → pageOwner h (x .table) j ≢ 0
+  pages-lower z = go came
+    where
+      go : PageFor h (x .table) c old p → (j : ℕ) → j < p → pageOwner h (x .table) j ≢ 0
+      go (new-page n o f) = o .lower
+      go (own-page q) = absurd (let a = own-owner q in omega arith)
+
+  pages-full-after : FullTo (pageOwner h (y .table)) (h .p) (pagesFrom (y .table))
+  pages-full-after =
+      let u = leftOwner h t old in
+      let same : (j : ℕ) → pageOwner h u j ≡ pageOwner h (x .table) j = left-page h x W c w t worded old mine in
+      let n = left-wrote h x W c w t worded old .len in
+      let m = W .room .in-table in
+      subst (λ (v : List ℕ). FullTo (pageOwner h v) (h .p) (pagesFrom v)) (sym table-is)
+      (put-owner-full 10 (pageOwnersAt h) u p (c + 1) (h .p) (omega arith) there (omega arith)
+      (full-same (W .pages-from) (left-from h x W c w t worded old) (λ j l. same j))
+      (λ d z j l e. pages-lower (sym (same p) ∙ z) j l (sym (same j) ∙ e)))
 
   pub page-moved : Moved h x (paged h x c old p page) c (encoded (Dense p))
   unfolding y t w paged
   page-moved =
       record {
-        wrote = owner-set h (x .table) (leftOwner h t old) c w (pageOwnersAt h + p) (c + 1) (left-wrote h x W c w t worded old) (omega arith);
+        wrote = page-owner-set h (x .table) (leftOwner h t old) c w (left-wrote h x W c w t worded old) p (c + 1);
         some = omega arith;
         rows-long = left-rows-long h x W c w t worded old mine;
         pages-long = length-put (x .pages) (p * wide h) (wide h) page long room;
@@ -207,6 +249,8 @@ module _ (h : Sizes) (x : Mem) (W : Walked x h) (c : ℕ) (old : Place) (p : ℕ
         others = others;
         rows-used = rows-count;
         pages-used = pages-count;
+        rows-from = rows-full-after;
+        pages-from = pages-full-after;
       }
 
   -- every other page has the owner that it had

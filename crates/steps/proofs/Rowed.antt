@@ -5,18 +5,17 @@ use mathlib.Core.List.{List}
 use mathlib.Core.Bool.{false, not}
 use Prim.Native.Nat.{ℕ, _+_, _-_, _*_, _≤_, _<_}
 use native.Mathlib.Omega.{arith}
-use lib.ListN.{length, getD, set}
-use lib.Seq.{getD-set-same, getD-set-other}
+use lib.ListN.{length, getD}
 use lib.Dec.{eqb}
 use mir.Val.{boolByte}
 use Rattle.sums.proofs.Counts.{count-ext}
 use Rattle.sparse.specs.Row.{rowOf, member}
 use Rattle.layout.specs.Mem.{Mem}
-use Rattle.layout.specs.Sizes.{wide, rowOwnersAt, pageOwnersAt, head, overCount}
+use Rattle.layout.specs.Sizes.{wide, rowOwnersAt, pageOwnersAt, head, overCount, rowsFrom, pagesFrom}
 use Rattle.layout.specs.Places.{decoded, encoded, hasRow, hasPage, rowOwner, pageOwner}
 use Rattle.layout.specs.Entries.{entries, chunkAt, placeOf}
 use Rattle.layout.specs.Meaning.{offsets}
-use Rattle.layout.specs.Follows.{AllZero, Owned, Listed, RowListed, Laid}
+use Rattle.layout.specs.Follows.{AllZero, Owned, Listed, RowListed, FullTo, Laid}
 use Rattle.document.specs.declared.sizes.Sizes.{Sizes}
 use Rattle.layout.specs.declared.place.Place.{Place}
 use Rattle.layout.specs.declared.place.Place.the-variants.{Absent, Sparse, Dense}
@@ -24,12 +23,13 @@ use Rattle.layout.proofs.Places.{decoded-encoded-sparse}
 use Rattle.layout_laws.proofs.Entries.{walked-ordered}
 use Rattle.layout_laws.proofs.Owners.{row-of}
 use Rattle.layout_laws.proofs.Walked.{laid-walked}
-use Rattle.layout.specs.Writes.{putWord, putRow}
+use Rattle.layout.specs.Writes.{putWord, putRowOwner, putRow}
 use Rattle.steps.specs.Steps.{rowed}
 use Rattle.steps.specs.Effects.{RowFor, new-row, own-row, RowedOk, Becomes}
 use Rattle.layout.proofs.Parts.{slot-in, length-put, slot-put, slot-kept, zero-kept}
 use Rattle.layout.proofs.Added.{same-or}
-use Rattle.steps.proofs.Table.{Worded, owner-set}
+use Rattle.layout.proofs.Owners.{full-same, put-owner-off, put-owner-here, put-owner-full}
+use Rattle.steps.proofs.Table.{Worded, row-owner-set}
 use Rattle.steps.proofs.Words.{put-word}
 use Rattle.steps.proofs.Slots.{entry-free, entry-none, taken, not-taken, used-change}
 use Rattle.steps.proofs.Moves.{Untouched, Moved}
@@ -55,7 +55,7 @@ module _ (h : Sizes) (x : Mem) (W : Walked x h) (c r l : ℕ) (row : List ℕ) (
   y : Mem
   y = rowed h x c r l row
 
-  table-is : y .table ≡ set (putWord h (x .table) c w) (rowOwnersAt h + r) (c + 1)
+  table-is : y .table ≡ putRowOwner h (putWord h (x .table) c w) r (c + 1)
   unfolding y w rowed
   table-is = refl
 
@@ -67,10 +67,10 @@ module _ (h : Sizes) (x : Mem) (W : Walked x h) (c r l : ℕ) (row : List ℕ) (
   inside = let n = worded .wrote .len in let m = W .room .in-table in omega arith
 
   owner-here : rowOwner h (y .table) r ≡ c + 1
-  owner-here = ap (λ (u : List ℕ). rowOwner h u r) table-is ∙ getD-set-same (putWord h (x .table) c w) (rowOwnersAt h + r) (c + 1) 0 inside
+  owner-here = ap (λ (u : List ℕ). rowOwner h u r) table-is ∙ put-owner-here 9 (rowOwnersAt h) (putWord h (x .table) c w) r (c + 1) (omega arith) inside
 
   owner-off : (i : ℕ) → rowOwnersAt h ≤ i → i ≢ rowOwnersAt h + r → getD (y .table) i 0 ≡ getD (x .table) i 0
-  owner-off i m d = ap (λ (u : List ℕ). getD u i 0) table-is ∙ getD-set-other (putWord h (x .table) c w) (rowOwnersAt h + r) i (c + 1) 0 d ∙ worded .owners i m
+  owner-off i m d = ap (λ (u : List ℕ). getD u i 0) table-is ∙ put-owner-off 9 (rowOwnersAt h) (putWord h (x .table) c w) r (c + 1) i (omega arith) d ∙ worded .owners i m
 
   row-off : (j : ℕ) → j ≢ r → rowOwner h (y .table) j ≡ rowOwner h (x .table) j
   row-off j d = owner-off (rowOwnersAt h + j) (omega arith) (omega arith)
@@ -89,7 +89,7 @@ module _ (h : Sizes) (x : Mem) (W : Walked x h) (c r l : ℕ) (row : List ℕ) (
   owner-was i d e = go came
     where
       go : RowFor h (x .table) c r → ⊥
-      go (new-row a o f) = omega arith
+      go (new-row a o f) = let z = o .free in omega arith
       go (own-row k q) = let o = own-owner k q in d (omega arith)
 
   others : (i : ℕ) (q : Place) → i ≢ c → Owned h (x .table) i q → Untouched h x y q
@@ -110,7 +110,7 @@ module _ (h : Sizes) (x : Mem) (W : Walked x h) (c r l : ℕ) (row : List ℕ) (
   rows-count = go came
     where
       go : RowFor h (x .table) c r → rowsOwned h (y .table) + boolByte (hasRow (placeOf h (x .table) c)) ≡ rowsOwned h (x .table) + boolByte (hasRow (decoded w))
-      go (new-row q o f) = let a = ap (λ (q : Place). boolByte (hasRow q)) q in omega (arith, rows-change, not-taken (rowOwner h (x .table) r) o)
+      go (new-row q o f) = let a = ap (λ (q : Place). boolByte (hasRow q)) q in omega (arith, rows-change, not-taken (rowOwner h (x .table) r) (o .free))
       go (own-row k q) =
           let a = ap (λ (q : Place). boolByte (hasRow q)) q in
           omega (arith, rows-change, taken (rowOwner h (x .table) r) c (own-owner k q))
@@ -129,11 +129,37 @@ module _ (h : Sizes) (x : Mem) (W : Walked x h) (c r l : ℕ) (row : List ℕ) (
       let e = ap (λ (q : Place). boolByte (hasPage q)) word-is in
       omega arith
 
+  -- ---- nothing below the header's words is free
+
+  rows-lower : rowOwner h (x .table) r ≡ 0 → (j : ℕ) → j < r → rowOwner h (x .table) j ≢ 0
+  rows-lower z = go came
+    where
+      go : RowFor h (x .table) c r → (j : ℕ) → j < r → rowOwner h (x .table) j ≢ 0
+      go (new-row q o f) = o .lower
+      go (own-row k q) = absurd (let a = own-owner k q in omega arith)
+
+  rows-full : FullTo (rowOwner h (y .table)) (h .r) (rowsFrom (y .table))
+  rows-full =
+      let u = putWord h (x .table) c w in
+      let same : (j : ℕ) → rowOwner h u j ≡ rowOwner h (x .table) j = λ j. worded .owners (rowOwnersAt h + j) (omega arith) in
+      let n = worded .wrote .len in
+      let m = W .room .in-table in
+      subst (λ (t : List ℕ). FullTo (rowOwner h t) (h .r) (rowsFrom t)) (sym table-is)
+      (put-owner-full 9 (rowOwnersAt h) u r (c + 1) (h .r) (omega arith) there (omega arith)
+      (full-same (W .rows-from) (worded .froms 9 (omega arith) (omega arith)) (λ j l. same j))
+      (λ d z j l e. rows-lower (sym (same r) ∙ z) j l (sym (same j) ∙ e)))
+
+  pages-full : FullTo (pageOwner h (y .table)) (h .p) (pagesFrom (y .table))
+  pages-full =
+      full-same (W .pages-from)
+      (ap (λ (u : List ℕ). pagesFrom u) table-is ∙ put-owner-off 9 (rowOwnersAt h) (putWord h (x .table) c w) r (c + 1) 10 (omega arith) (omega arith)
+      ∙ worded .froms 10 (omega arith) (omega arith)) (λ j l. page-same j)
+
   pub row-moved : Moved h x (rowed h x c r l row) c (encoded (Sparse r l))
   unfolding y w rowed
   row-moved =
       record {
-        wrote = owner-set h (x .table) (putWord h (x .table) c w) c w (rowOwnersAt h + r) (c + 1) (worded .wrote) (omega arith);
+        wrote = row-owner-set h (x .table) (putWord h (x .table) c w) c w (worded .wrote) r (c + 1);
         some = omega arith;
         rows-long = length-put (x .rows) (r * h .m) (h .m) row long room;
         pages-long = refl;
@@ -142,6 +168,8 @@ module _ (h : Sizes) (x : Mem) (W : Walked x h) (c r l : ℕ) (row : List ℕ) (
         others = others;
         rows-used = rows-count;
         pages-used = pages-count;
+        rows-from = rows-full;
+        pages-from = pages-full;
       }
 
   -- every other row has the owner that it had

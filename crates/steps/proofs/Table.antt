@@ -6,9 +6,11 @@ use Prim.Native.Nat.{ℕ, _+_, _-_, _≤_, _<_}
 use native.Mathlib.Omega.{arith}
 use lib.ListN.{length, getD, set, length-set}
 use lib.Seq.{getD-set-same, getD-set-other}
-use Rattle.layout.specs.Sizes.{directAt, overAt, rowOwnersAt, tableSize, overCount, headerAt}
+use Rattle.layout.specs.Sizes.{directAt, overAt, rowOwnersAt, pageOwnersAt, tableSize, overCount, headerAt}
 use Rattle.layout.specs.Entries.{entries, chunkAt, wordAt, prefixAt}
+use Rattle.layout.specs.Writes.{putRowOwner, putPageOwner}
 use Rattle.document.specs.declared.sizes.Sizes.{Sizes}
+use Rattle.layout.proofs.Owners.{put-owner-length, put-owner-off}
 use Rattle.layout_laws.proofs.Entries.{chunk-direct, word-direct, prefix-direct, chunk-over, word-over, prefix-over, Which, direct, over, which}
 use Rattle.steps.proofs.Puts as puts
 use Rattle.steps.proofs.Puts.{Run, Put, Alike, put-alike}
@@ -17,19 +19,21 @@ use Rattle.steps.proofs.Puts.{Run, Put, Alike, put-alike}
 abbrev pub runOf : Sizes → List ℕ → Run
 runOf h t = record { size = entries h t; key = chunkAt h t; word = wordAt h t; prefix = prefixAt h t }
 
--- the word w put for chunk c, owners aside
+-- the word w put for chunk c, owners and header words 9 and 10 aside
 pub record Wrote (h : Sizes) (t t′ : List ℕ) (c w : ℕ) : Type 0 where
   pub len : length t′ ≡ length t
-  pub header : (i : ℕ) → i < 16 → i ≢ 7 → getD t′ i 0 ≡ getD t i 0
+  pub header : (i : ℕ) → i < 9 → i ≢ 7 → getD t′ i 0 ≡ getD t i 0
+  pub unused : (i : ℕ) → i < 5 → getD t′ (11 + i) 0 ≡ getD t (11 + i) 0
   pub more : overCount t ≤ overCount t′
   pub fits : overCount t′ ≤ h .v
   pub spare : (i : ℕ) → overAt h (overCount t′) ≤ i → i < rowOwnersAt h → getD t′ i 0 ≡ getD t i 0
   pub put : Put (runOf h t) (runOf h t′) c w
 
--- and the owners as they were
+-- and those as they were
 pub record Worded (h : Sizes) (t t′ : List ℕ) (c w : ℕ) : Type 0 where
   pub wrote : Wrote h t t′ c w
   pub owners : (i : ℕ) → rowOwnersAt h ≤ i → getD t′ i 0 ≡ getD t i 0
+  pub froms : (i : ℕ) → 9 ≤ i → i < 11 → getD t′ i 0 ≡ getD t i 0
 
 pub header-kept : (h : Sizes) (t t′ : List ℕ) (c w : ℕ) → Wrote h t t′ c w → headerAt t′ ≡ headerAt t
 header-kept h t t′ c w u =
@@ -62,30 +66,45 @@ module _ (h : Sizes) (t t′ : List ℕ) (e : ℕ) where
 
 -- ---- an owner
 
--- past the entries nothing of the directory stands
-pub owner-alike : (h : Sizes) (u : List ℕ) (i v : ℕ) → overCount u ≤ h .v → rowOwnersAt h ≤ i → Alike (runOf h u) (runOf h (set u i v))
-owner-alike h u i v f l =
-    let off : (j : ℕ) → j < rowOwnersAt h → getD (set u i v) j 0 ≡ getD u j 0 = λ j m. getD-set-other u i j v 0 (omega arith) in
-    record {
-      size = ap (λ (n : ℕ). h .d + n) (off 7 (omega arith));
-      keys = λ e m. chunk-same h u (set u i v) e (λ j q. off (overAt h j) (omega arith));
-      words = λ e m. word-same h u (set u i v) e (λ q. off (directAt e) (omega arith)) (λ j q. off (overAt h j + 1) (omega arith));
-      prefixes = λ e m. prefix-same h u (set u i v) e (λ q. off (directAt e + 1) (omega arith)) (λ j q. off (overAt h j + 2) (omega arith));
-    }
+-- past the entries, and in header words 9 and 10, nothing of the directory stands
+module _ (h : Sizes) (u u′ : List ℕ) (off : (j : ℕ) → j < rowOwnersAt h → j ≢ 9 → j ≢ 10 → getD u′ j 0 ≡ getD u j 0) where
+  at : (j : ℕ) → 11 ≤ j → j < rowOwnersAt h → getD u′ j 0 ≡ getD u j 0
+  at j l m = off j m (omega arith) (omega arith)
 
-pub owner-set : (h : Sizes) (t u : List ℕ) (c w i v : ℕ) → Wrote h t u c w → rowOwnersAt h ≤ i → Wrote h t (set u i v) c w
-owner-set h t u c w i v z l =
-    let f = z .fits in
-    let off : (j : ℕ) → j < rowOwnersAt h → getD (set u i v) j 0 ≡ getD u j 0 = λ j m. getD-set-other u i j v 0 (omega arith) in
-    let seven = off 7 (omega arith) in
-    record {
-      len = length-set u i v ∙ z .len;
-      header = λ j m d. off j (omega arith) ∙ z .header j m d;
-      more = let m = z .more in omega arith;
-      fits = omega arith;
-      spare = λ j a b. off j b ∙ z .spare j (omega arith) b;
-      put = put-alike (runOf h t) (runOf h u) (runOf h (set u i v)) c w (z .put) (owner-alike h u i v f l);
-    }
+  seven : overCount u′ ≡ overCount u
+  seven = off 7 (omega arith) (omega arith) (omega arith)
+
+  owner-alike : overCount u ≤ h .v → Alike (runOf h u) (runOf h u′)
+  owner-alike f =
+      record {
+        size = ap (λ (n : ℕ). h .d + n) seven;
+        keys = λ e m. chunk-same h u u′ e (λ j q. at (overAt h j) (omega arith) (omega arith));
+        words = λ e m. word-same h u u′ e (λ q. at (directAt e) (omega arith) (omega arith)) (λ j q. at (overAt h j + 1) (omega arith) (omega arith));
+        prefixes = λ e m. prefix-same h u u′ e (λ q. at (directAt e + 1) (omega arith) (omega arith)) (λ j q. at (overAt h j + 2) (omega arith) (omega arith));
+      }
+
+  owner-set : (t : List ℕ) (c w : ℕ) → Wrote h t u c w → length u′ ≡ length u → Wrote h t u′ c w
+  owner-set t c w z long =
+      let f = z .fits in
+      let s = seven in
+      record {
+        len = long ∙ z .len;
+        header = λ j m d. off j (omega arith) (omega arith) (omega arith) ∙ z .header j m d;
+        unused = λ j m. at (11 + j) (omega arith) (omega arith) ∙ z .unused j m;
+        more = let m = z .more in omega arith;
+        fits = omega arith;
+        spare = λ j a b. at j (omega arith) b ∙ z .spare j (omega arith) b;
+        put = put-alike (runOf h t) (runOf h u) (runOf h u′) c w (z .put) (owner-alike f);
+      }
+
+module _ (h : Sizes) (t u : List ℕ) (c w : ℕ) (z : Wrote h t u c w) (i v : ℕ) where
+  pub row-owner-set : Wrote h t (putRowOwner h u i v) c w
+  row-owner-set =
+      owner-set h u (putRowOwner h u i v) (λ j l d e. put-owner-off 9 (rowOwnersAt h) u i v j d (omega arith)) t c w z (put-owner-length 9 (rowOwnersAt h) u i v)
+
+  pub page-owner-set : Wrote h t (putPageOwner h u i v) c w
+  page-owner-set =
+      owner-set h u (putPageOwner h u i v) (λ j l d e. put-owner-off 10 (pageOwnersAt h) u i v j e (omega arith)) t c w z (put-owner-length 10 (pageOwnersAt h) u i v)
 
 -- ---- an entry that is there
 
@@ -142,6 +161,7 @@ module _ (h : Sizes) (t : List ℕ) (room : tableSize h ≤ length t) (fits : ov
             record {
               len = length-set t (wordPlace h e s) w;
               header = λ i m d. off i (omega arith);
+              unused = λ i m. off (11 + i) (omega arith);
               more = omega arith;
               fits = omega arith;
               spare = λ i x y. off i (omega arith);
@@ -158,4 +178,5 @@ module _ (h : Sizes) (t : List ℕ) (room : tableSize h ≤ length t) (fits : ov
                   });
             };
         owners = λ i m. off i (omega arith);
+        froms = λ i m n. off i (omega arith);
       }

@@ -85,6 +85,7 @@ module _ (h : Sizes) (t : List ℕ) (c w k : ℕ) (le : k ≤ overCount t) (room
               record {
                 len = (added-length h t c w k le room);
                 header = λ i l d. (added-low h t c w k le room) i d (omega arith);
+                unused = λ i l. (added-low h t c w k le room) (11 + i) (omega arith) (omega arith);
                 more = omega arith;
                 fits = omega arith;
                 spare = λ i a b. (added-high h t c w k le room) i (omega arith);
@@ -106,6 +107,7 @@ module _ (h : Sizes) (t : List ℕ) (c w k : ℕ) (le : k ≤ overCount t) (room
                     });
               };
           owners = λ i l. (added-high h t c w k le room) i (omega arith);
+          froms = λ i l m. (added-low h t c w k le room) i (omega arith) (omega arith);
         }
 
 -- ---- all three

@@ -15,6 +15,7 @@ use Rattle.layout.specs.Entries.{placeOf}
 use Rattle.document.specs.State.{Kind}
 use Rattle.layout.specs.Meaning.{holds, kindOf, kinds, ranked}
 use Rattle.layout.specs.Follows.{Listed, Follows}
+use Rattle.layout.specs.Lowest.{Lowest}
 use Rattle.document.specs.declared.sizes.Sizes.{Sizes}
 use Rattle.layout.specs.declared.place.Place.{Place}
 use Rattle.layout.specs.declared.place.Place.the-variants.{Absent, Sparse, Dense}
@@ -29,9 +30,9 @@ pub record Open (x : Mem) (c : ℕ) : Type 0 where
 abbrev pub EntryFor : Sizes → List ℕ → ℕ → Type 0
 EntryFor h t c = h .d ≤ c → overCount t < h .v
 
--- a free row for a chunk that is absent, or the chunk's own row
+-- the lowest free row for a chunk that is absent, or the chunk's own row
 pub data RowFor (h : Sizes) (t : List ℕ) (c r : ℕ) : Type 0 where
-  new-row : placeOf h t c ≡ Absent → rowOwner h t r ≡ 0 → EntryFor h t c → RowFor h t c r
+  new-row : placeOf h t c ≡ Absent → Lowest (rowOwner h t) (h .r) r → EntryFor h t c → RowFor h t c r
   own-row : (l : ℕ) → placeOf h t c ≡ Sparse r l → RowFor h t c r
 
 pub record RowedOk (x : Mem) (c r l : ℕ) (row : List ℕ) : Type 0 where
@@ -43,9 +44,9 @@ pub record RowedOk (x : Mem) (c r l : ℕ) (row : List ℕ) : Type 0 where
   pub listed : Listed (head x) row l
   pub came : RowFor (head x) (x .table) c r
 
--- a free page for a chunk that is not dense, or the chunk's own page
+-- the lowest free page for a chunk that is not dense, or the chunk's own page
 pub data PageFor (h : Sizes) (t : List ℕ) (c : ℕ) (old : Place) (p : ℕ) : Type 0 where
-  new-page : hasPage old ≡ false → pageOwner h t p ≡ 0 → (old ≡ Absent → EntryFor h t c) → PageFor h t c old p
+  new-page : hasPage old ≡ false → Lowest (pageOwner h t) (h .p) p → (old ≡ Absent → EntryFor h t c) → PageFor h t c old p
   own-page : old ≡ Dense p → PageFor h t c old p
 
 pub record PagedOk (x : Mem) (c : ℕ) (old : Place) (p : ℕ) (page : List ℕ) : Type 0 where

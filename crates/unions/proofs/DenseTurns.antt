@@ -21,7 +21,7 @@ use Rattle.document.specs.Union.{sameShape}
 use Rattle.document.specs.declared.sizes.Sizes.{Sizes}
 use Rattle.layout.specs.Mem.{Mem, mem}
 use Rattle.layout.specs.Sizes.{RoomIn, wide, head}
-use Rattle.layout.specs.Places.{rowPart, pagePart, pageOwner}
+use Rattle.layout.specs.Places.{rowPart, pagePart}
 use Rattle.layout.specs.Entries.{placeOf}
 use Rattle.layout.specs.Meaning.{offsets, ranked}
 use Rattle.layout.specs.Follows.{Listed, RowListed, Follows}
@@ -37,7 +37,8 @@ use Rattle.steps.proofs.Paged.{paged-becomes}
 use Rattle.steps.proofs.Keeps.{still-open}
 use Rattle.calls.specs.Insert.{freePage}
 use Rattle.calls.specs.Prepare.{intoPage}
-use Rattle.calls.proofs.FirstFree.{first-free}
+use Rattle.layout.specs.Lowest.{LowestPage}
+use Rattle.layout.proofs.FirstFree.{lowest}
 use Rattle.unions.specs.Union.{unionDense, pageOf, withSource, joinedPage, densely}
 use Rattle.unions.proofs.Results.{same-s, same-top}
 use Rattle.unions.proofs.Stepwise.{becomes-same, place-after, offsets-after, becomes-as, becomes-then, page-anew}
@@ -109,11 +110,11 @@ module _ {x : Mem} (w : Follows x) (mode : ranked x ≡ false) (c : ℕ) (far : 
   opened : Open x c
   opened = record { follows = w; mode = mode; chunk = far }
 
-  owner : freePage x < head x .p → pageOwner (head x) (x .table) (freePage x) ≡ 0
-  owner l = first-free (pageOwner (head x) (x .table)) 0 (head x .p) .free (omega arith)
+  low : freePage x < head x .p → LowestPage x (freePage x)
+  low = lowest (w .pages-from)
 
   clear : freePage x < head x .p → (n : ℕ) → isSet blank n ≡ false
-  clear l = free-page-none w (freePage x) l (owner l)
+  clear l = free-page-none w (freePage x) l (low l .free)
 
   long : freePage x < head x .p → length blank ≡ wide (head x)
   long l = page-length (head x) x (w .room) (freePage x) l
@@ -123,7 +124,7 @@ module _ {x : Mem} (w : Follows x) (mode : ranked x ≡ false) (c : ℕ) (far : 
   into-page Absent e l room =
       becomes-as
       (paged-becomes x c Absent (freePage x) blank
-      (record { set = opened; old-is = sym e; there = l; long = long l; came = PageFor.new-page refl (owner l) room }))
+      (record { set = opened; old-is = sym e; there = l; long = long l; came = PageFor.new-page refl (low l) room }))
       (offsets (head x) x Absent) (λ n m. clear l n)
   into-page (Sparse r k) e l room =
       let row = rowPart (head x) (x .rows) r in
@@ -135,7 +136,7 @@ module _ {x : Mem} (w : Follows x) (mode : ranked x ≡ false) (c : ℕ) (far : 
         old-is = sym e;
         there = l;
         long = length-row blank row (top (head x)) k ∙ long l;
-        came = PageFor.new-page refl (owner l) room;
+        came = PageFor.new-page refl (low l) room;
       }))
       (offsets (head x) x (Sparse r k))
       (λ n m. set-row (head x) (w .sizes) blank row k (long l) listed n ∙ ap (λ (b : Bool). b || member (rowOf row) k n) (clear l n))

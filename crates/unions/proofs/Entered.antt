@@ -14,7 +14,7 @@ use Rattle.document.specs.Sizes.{lastChunk}
 use Rattle.document.specs.Union.{sameShape}
 use Rattle.document.specs.declared.sizes.Sizes.{Sizes}
 use Rattle.layout.specs.Mem.{Mem, mem}
-use Rattle.layout.specs.Sizes.{RoomIn, wide, rowOwnersAt, tableSize, head, overCount}
+use Rattle.layout.specs.Sizes.{RoomIn, wide, tableSize, head, overCount}
 use Rattle.layout.specs.Places.{decoded, encoded}
 use Rattle.layout.specs.Entries.{entries, chunkAt, placeOf}
 use Rattle.layout.specs.Spare.{Beyond, Spare}
@@ -28,7 +28,7 @@ use Rattle.layout_laws.proofs.Spares.{EntryRoom, room-ordered, beyond-same, spa
 use Rattle.steps.specs.Steps.{rowed}
 use Rattle.steps.proofs.Puts as puts
 use Rattle.steps.proofs.Puts.{Put}
-use Rattle.steps.proofs.Table.{runOf, Wrote, header-kept, owner-set}
+use Rattle.steps.proofs.Table.{runOf, Wrote, header-kept, row-owner-set}
 use Rattle.steps.proofs.Words.{put-word}
 use Rattle.steps.proofs.Orders.{wrote-ordered, wrote-place, wrote-place-off}
 use Rattle.steps.proofs.Slots.{entry-none}
@@ -46,7 +46,7 @@ unfolding rowed
 rowed-wrote h x o room fits c free r l row =
     let t = x .table in
     let w = encoded (Sparse r l) in
-    owner-set h t (putWord h t c w) c w (rowOwnersAt h + r) (c + 1) (put-word h t o room fits c w free .wrote) (omega arith)
+    row-owner-set h t (putWord h t c w) c w (put-word h t o room fits c w free .wrote) r (c + 1)
 
 word-placed : (w : ℕ) → w ≢ 0 → isPlaced (decoded w) ≡ true
 word-placed w d = go (eqb w 0) (ne-eqb w 0 d) (ltb w 268435456)

@@ -13,7 +13,6 @@ use Rattle.document.specs.Union.{either, unionMap, sameShape}
 use Rattle.document.specs.declared.sizes.Sizes.{Sizes}
 use Rattle.layout.specs.Mem.{Mem}
 use Rattle.layout.specs.Sizes.{head, modeAt}
-use Rattle.layout.specs.Places.{pageOwner}
 use Rattle.layout.specs.Entries.{placeOf}
 use Rattle.layout.specs.Meaning.{offsets, holds, kindOf, kinds, ranked, stateOf}
 use Rattle.layout.specs.Follows.{Follows}
@@ -24,7 +23,7 @@ use Rattle.layout_laws.proofs.Walked.{laid-walked}
 use Rattle.layout_laws.proofs.Owners.{page-of}
 use Rattle.steps.specs.Effects.{EntryFor}
 use Rattle.calls.specs.Insert.{freePage}
-use Rattle.calls.proofs.Slots.{lowest}
+use Rattle.layout.proofs.FirstFree.{lowest}
 use Rattle.unions.specs.Union.{standing, source, sourceChunk, sourceEntries, isPlaced, unionDense, pageOf, densely, denseTo}
 use Rattle.unions.proofs.Standing.{standing-is, source-of, chunk-in}
 use Rattle.unions.proofs.Results.{same-last, result-dense}
@@ -118,8 +117,8 @@ module _ {x y : Mem} (w : Follows x) (mode : ranked x ≡ false) (v : Follows y)
     page (Dense p) at d = page-of (laid-walked f) c p at .there
 
     takes : (o : Place) → pageOf z o < head z .p → Moves z o (Dense (pageOf z o))
-    takes Absent m = lowest (pageOwner (head z) (z .table)) (head z .p) m
-    takes (Sparse r k) m = lowest (pageOwner (head z) (z .table)) (head z .p) m
+    takes Absent m = lowest (f .pages-from) m
+    takes (Sparse r k) m = lowest (f .pages-from) m
     takes (Dense p) m = refl
 
     becoming : (o : Place) → placeOf (head z) (z .table) c ≡ o → unionDense z y o q ≡ true → Goes dense z (densely z y c o q) c half

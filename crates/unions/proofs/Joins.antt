@@ -27,6 +27,7 @@ use Rattle.layout.specs.Tests.{Walked, walked}
 use Rattle.layout.specs.declared.place.Place.{Place}
 use Rattle.layout.specs.declared.place.Place.the-variants.{Absent, Sparse, Dense}
 use Rattle.layout.proofs.Tests.{walked-of}
+use Rattle.layout_laws.proofs.Walked.{walked-beside}
 use Rattle.layout_laws.proofs.ChunkCounts.{over-chunks}
 use Rattle.steps.specs.Effects.{EntryFor}
 use Rattle.steps.proofs.Table.{header-kept}
@@ -206,21 +207,8 @@ joins-pages {x} {y} J ps e =
     let r = w .room in
     record {
       here =
-          record {
-            sizes = w .sizes;
-            room = record { in-pages = let i = r .in-pages in omega arith; in-rows = r .in-rows; in-blocks = r .in-blocks; in-table = r .in-table };
-            mode = w .mode;
-            unused = w .unused;
-            over-fits = w .over-fits;
-            keys = w .keys;
-            words = w .words;
-            spare = w .spare;
-            places = w .places;
-            rows-used = w .rows-used;
-            pages-used = w .pages-used;
-            rising = w .rising;
-            total = w .total;
-          };
+          walked-beside w ps (x .rows) (x .blocks)
+          (record { in-pages = let i = r .in-pages in omega arith; in-rows = r .in-rows; in-blocks = r .in-blocks; in-table = r .in-table });
       there = J .there;
       mode = J .mode;
       shape = J .shape;

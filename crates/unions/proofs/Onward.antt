@@ -39,7 +39,8 @@ use Rattle.steps.proofs.Rowed.{row-moved, rowed-owner}
 use Rattle.steps.proofs.Paged.{page-moved, paged-owner}
 use Rattle.calls.specs.Insert.{freeRow, freePage}
 use Rattle.calls.specs.Prepare.{intoPage}
-use Rattle.calls.proofs.FirstFree.{first-free}
+use Rattle.layout.specs.Lowest.{LowestPage}
+use Rattle.layout.proofs.FirstFree.{lowest}
 use Rattle.unions.specs.Union.{standing, source, sourceChunk, sourceEntries, rowsUnion, unionDense, pageOf, withSource, joinedPage, densely, denseTo, rowCopied, rowJoined, sparsely, sparseTo}
 use Rattle.unions.specs.Joinable.{Joinable}
 use Rattle.unions.proofs.Standing.{standing-is, source-is, source-of, chunk-in}
@@ -90,11 +91,11 @@ module _ {x y : Mem} (J : Joinable x y) (e : ℕ) (l : e < sourceEntries y) wher
       abbrev after : Mem
       after = paged (head x) x c o (freePage x) page
 
-      owner-zero : pageOwner (head x) (x .table) (freePage x) ≡ 0
-      owner-zero = first-free (pageOwner (head x) (x .table)) 0 (head x .p) .free (omega arith)
+      low : LowestPage x (freePage x)
+      low = lowest (J .here .pages-from) room
 
       came : PageFor (head x) (x .table) c o (freePage x)
-      came = PageFor.new-page k owner-zero (λ a. entry-room J c far (absent-here (at ∙ a)) has)
+      came = PageFor.new-page k low (λ a. entry-room J c far (absent-here (at ∙ a)) has)
 
       moved : Moved (head x) x after c (encoded (Dense (freePage x)))
       moved = page-moved (head x) x (J .here) c o (freePage x) page (sym at) room long came
@@ -106,7 +107,7 @@ module _ {x y : Mem} (J : Joinable x y) (e : ℕ) (l : e < sourceEntries y) wher
       page-taken j d = go (same-or j (freePage x))
         where
           go : (j ≡ freePage x) ⊎ (j ≢ freePage x) → pageOwner (head x) (after .table) j ≢ 0
-          go (inl q) = absurd (d (ap (pageOwner (head x) (x .table)) q ∙ owner-zero))
+          go (inl q) = absurd (d (ap (pageOwner (head x) (x .table)) q ∙ low .free))
           go (inr n) = λ q. d (sym (paged-owner (head x) x (J .here) c o (freePage x) page (sym at) room long came j n) ∙ q)
 
       turned-paged : Turned pageOwner x y after
@@ -224,7 +225,7 @@ module _ {x y : Mem} (J : Joinable x y) (e : ℕ) (l : e < sourceEntries y) wher
       let a = row-length (head y) y (J .there .room) i (o .there) in
       let d = row-length (head x) x (J .here .room) (freeRow x) room in
       turned-rowed has (freeRow x) k (copied src dst k) room (o .some) short (length-copied src dst k (omega arith) (omega arith) ∙ d)
-      (RowFor.new-row at (first-free (rowOwner (head x) (x .table)) 0 (head x .r) .free (omega arith)) (entry-room J c far (absent-here at) has)))
+      (RowFor.new-row at (lowest (J .here .rows-from) room) (entry-room J c far (absent-here at) has)))
 
   joined-row : (r n i k : ℕ) → here ≡ Sparse r n → source y e ≡ Sparse i k → Turned rowOwner x y (rowJoined x y c r n i k)
   joined-row r n i k at s =

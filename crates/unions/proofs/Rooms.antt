@@ -1,7 +1,7 @@
 -- Room for a chunk on the way: a map that has less than the one to come has a slot left. Assumes nothing.
 use mathlib.Core.Path.{_≡_, refl, ap, _∙_}
 use mathlib.Core.Bool.{Bool, true, false, cond, _&&_}
-use Prim.Native.Nat.{ℕ, _≤_, _<_}
+use Prim.Native.Nat.{ℕ, _-_, _≤_, _<_}
 use native.Mathlib.Omega.{arith}
 use lib.Dec.{leb, ltb, eqb}
 use mir.Val.{boolByte}
@@ -14,13 +14,12 @@ use Rattle.document.specs.State.{Kind, isPresent, isSparse, isDense}
 use Rattle.document.specs.Room.{overflows, sparses, denses}
 use Rattle.layout.specs.Mem.{Mem}
 use Rattle.layout.specs.Sizes.{head}
-use Rattle.layout.specs.Places.{rowOwner, pageOwner}
 use Rattle.layout.specs.Free.{firstFree}
 use Rattle.layout.specs.Meaning.{kinds}
-use Rattle.layout.specs.Follows.{Follows}
+use Rattle.layout.specs.Follows.{FullTo, Follows}
 use Rattle.steps.specs.Effects.{EntryFor}
 use Rattle.calls.specs.Insert.{freeRow, freePage}
-use Rattle.calls.proofs.FirstFree.{taken, none-full}
+use Rattle.layout.proofs.FirstFree.{taken, none-full}
 use Rattle.calls.proofs.Needed.{count-imp}
 use Rattle.calls.proofs.Verdicts.{overflows-is, sparses-is, denses-is}
 
@@ -43,12 +42,12 @@ count-under P Q c n l f p q =
 
 -- ---- a slot of n is free where fewer have an owner
 
-slot-free : (owner : ℕ → ℕ) (n : ℕ) → count (taken owner) n < n → firstFree owner 0 n < n
-slot-free owner n l = go (ltb (firstFree owner 0 n) n) refl
+slot-free : {owner : ℕ → ℕ} {n k : ℕ} → FullTo owner n k → count (taken owner) n < n → firstFree owner k (n - k) < n
+slot-free {owner} {n} {k} w l = go (ltb (firstFree owner k (n - k)) n) refl
   where
-    go : (b : Bool) → ltb (firstFree owner 0 n) n ≡ b → firstFree owner 0 n < n
-    go true e = ltb-true (firstFree owner 0 n) n e
-    go false e = absurd (let f = none-full owner n (ltb-false (firstFree owner 0 n) n e) in omega arith)
+    go : (b : Bool) → ltb (firstFree owner k (n - k)) n ≡ b → firstFree owner k (n - k) < n
+    go true e = ltb-true (firstFree owner k (n - k)) n e
+    go false e = absurd (let f = none-full w (ltb-false (firstFree owner k (n - k)) n e) in omega arith)
 
 -- ---- chunk c of memory on the way to a map
 
@@ -59,7 +58,7 @@ module _ {z : Mem} (w : Follows z) (map : ℕ → Kind) (c : ℕ) (far : c < las
   page-there f room a b =
       let u = count-under (λ (i : ℕ). isDense (kinds z i)) (λ (i : ℕ). isDense (map i)) c (lastChunk (head z)) far f a b in
       let e = denses-is w in
-      slot-free (pageOwner (head z) (z .table)) (head z .p) (omega arith)
+      slot-free (w .pages-from) (omega arith)
 
   pub row-there : ((i : ℕ) → isSparse (kinds z i) ≡ true → isSparse (map i) ≡ true) → sparses (head z) map ≤ head z .r
       → isSparse (kinds z c) ≡ false → isSparse (map c) ≡ true → freeRow z < head z .r
@@ -67,7 +66,7 @@ module _ {z : Mem} (w : Follows z) (map : ℕ → Kind) (c : ℕ) (far : c < las
   row-there f room a b =
       let u = count-under (λ (i : ℕ). isSparse (kinds z i)) (λ (i : ℕ). isSparse (map i)) c (lastChunk (head z)) far f a b in
       let e = sparses-is w in
-      slot-free (rowOwner (head z) (z .table)) (head z .r) (omega arith)
+      slot-free (w .rows-from) (omega arith)
 
   pub entry-there : ((i : ℕ) → isPresent (kinds z i) ≡ true → isPresent (map i) ≡ true) → overflows (head z) map ≤ head z .v
       → isPresent (kinds z c) ≡ false → isPresent (map c) ≡ true → EntryFor (head z) (z .table) c

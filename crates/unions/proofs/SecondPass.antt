@@ -15,7 +15,6 @@ use Rattle.document.specs.declared.sizes.Sizes.{Sizes}
 use Rattle.document.specs.declared.answer.Outcome.the-variants.{Done}
 use Rattle.layout.specs.Mem.{Mem}
 use Rattle.layout.specs.Sizes.{head}
-use Rattle.layout.specs.Places.{rowOwner}
 use Rattle.layout.specs.Entries.{placeOf}
 use Rattle.layout.specs.Meaning.{offsets, holds, kindOf, kinds, ranked, stateOf}
 use Rattle.layout.specs.Follows.{Follows}
@@ -25,7 +24,7 @@ use Rattle.layout.specs.declared.place.Place.the-variants.{Absent, Sparse, Dens
 use Rattle.layout_laws.proofs.Walked.{laid-walked}
 use Rattle.steps.specs.Effects.{EntryFor}
 use Rattle.calls.specs.Insert.{freeRow}
-use Rattle.calls.proofs.Slots.{lowest}
+use Rattle.layout.proofs.FirstFree.{lowest}
 use Rattle.unions.specs.Union.{standing, source, sourceChunk, sourceEntries, isPlaced, rowsUnion, unionDense, sparsely, sparseTo}
 use Rattle.unions.proofs.Standing.{standing-is, source-of}
 use Rattle.unions.proofs.Results.{result-kind}
@@ -119,7 +118,7 @@ module _ (x : Mem) {y : Mem} (mode : ranked x ≡ false) (v : Follows y) (same :
           place = Sparse (freeRow z) k;
           inside = offsets (head y) y (Sparse i k);
           becomes = copied-turn f (open-still x z (s .mode) mode) v shape c far i k from at there entry;
-          moves = subst (λ (u : Place). Moves z u (Sparse (freeRow z) k)) (sym at) (lowest (rowOwner (head z) (z .table)) (head z .r) there);
+          moves = subst (λ (u : Place). Moves z u (Sparse (freeRow z) k)) (sym at) (lowest (f .rows-from) there);
           lands = inr refl;
           kind = is;
           members = members Absent at refl i k from;

@@ -16,7 +16,7 @@ use Rattle.document.specs.Sizes.{lastChunk}
 use Rattle.document.specs.Union.{sameShape}
 use Rattle.layout.specs.Mem.{Mem}
 use Rattle.layout.specs.Sizes.{head}
-use Rattle.layout.specs.Places.{rowPart, rowOwner}
+use Rattle.layout.specs.Places.{rowPart}
 use Rattle.layout.specs.Entries.{placeOf}
 use Rattle.layout.specs.Meaning.{offsets, ranked}
 use Rattle.layout.specs.Follows.{OwnsRow, Listed, RowListed, Follows}
@@ -29,7 +29,8 @@ use Rattle.steps.specs.Steps.{rowed}
 use Rattle.steps.specs.Effects.{Open, EntryFor, RowFor, Becomes}
 use Rattle.steps.proofs.Rowed.{rowed-becomes}
 use Rattle.calls.specs.Insert.{freeRow}
-use Rattle.calls.proofs.FirstFree.{first-free}
+use Rattle.layout.specs.Lowest.{LowestRow}
+use Rattle.layout.proofs.FirstFree.{lowest}
 use Rattle.unions.specs.Union.{rowsUnion, sparsely}
 use Rattle.unions.proofs.Results.{same-m, same-top, offsetsOf, offsets-length, rows-rise, rows-below, rows-among}
 use Rattle.unions.proofs.Stepwise.{becomes-as}
@@ -68,8 +69,8 @@ module _ {x y : Mem} (w : Follows x) (mode : ranked x ≡ false) (v : Follows y)
     abbrev new : List ℕ
     new = copied src free k
 
-    owner : rowOwner (head x) (x .table) (freeRow x) ≡ 0
-    owner = first-free (rowOwner (head x) (x .table)) 0 (head x .r) .free (omega arith)
+    low : LowestRow x (freeRow x)
+    low = lowest (w .rows-from) there
 
     free-long : length free ≡ head x .m
     free-long = row-length (head x) x (w .room) (freeRow x) there
@@ -90,7 +91,7 @@ module _ {x y : Mem} (w : Follows x) (mode : ranked x ≡ false) (v : Follows y)
     new-listed = record {
       below = λ j l. let a = new-at j l in let b = row-listed v c i k from .below j l in let t = same-top x y same in omega arith;
       rising = λ j l. let a = new-at j (omega arith) in let b = new-at (j + 1) l in let r = row-listed v c i k from .rising j l in omega arith;
-      rest = λ j l. copied-beyond src free k in-src in-free (k + j) (omega arith) ∙ free-row-clear w (freeRow x) there owner (k + j);
+      rest = λ j l. copied-beyond src free k in-src in-free (k + j) (omega arith) ∙ free-row-clear w (freeRow x) there (low .free) (k + j);
     }
 
     begun : Becomes x (rowed (head x) x c (freeRow x) k new) c (Sparse (freeRow x) k) (member (rowOf new) k)
@@ -103,7 +104,7 @@ module _ {x y : Mem} (w : Follows x) (mode : ranked x ≡ false) (v : Follows y)
           short = short;
           long = length-copied src free k in-src in-free ∙ free-long;
           listed = new-listed;
-          came = RowFor.new-row at owner entry;
+          came = RowFor.new-row at low entry;
         })
 
     pub copied-turn : Becomes x (sparsely x y c Absent (Sparse i k)) c (Sparse (freeRow x) k) (offsets (head y) y (Sparse i k))

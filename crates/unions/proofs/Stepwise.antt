@@ -31,7 +31,8 @@ use Rattle.layout_laws.proofs.Walked.{laid-walked}
 use Rattle.steps.specs.Steps.{paged}
 use Rattle.steps.specs.Effects.{Open, PageFor, Becomes}
 use Rattle.steps.proofs.Paged.{paged-becomes}
-use Rattle.calls.proofs.Plans.{dense-word, set-same, put-same}
+use Rattle.layout.proofs.Owners.{put-owner-same}
+use Rattle.calls.proofs.Plans.{dense-word, put-same}
 
 -- ---- no step
 
@@ -143,7 +144,7 @@ module _ {z : Mem} {c : ℕ} (o : Open z c) (p : ℕ) (e : placeOf (head z) (z .
   table-same =
       let a = dense-word (wordOf (head z) (z .table) c) p e in
       ap (λ (t : List ℕ). putPageOwner (head z) t p (c + 1)) (put-same (head z) (z .table) (laid-ordered (o .follows)) c (encoded (Dense p)) a (omega arith))
-      ∙ set-same (z .table) (pageOwnersAt (head z) + p) (c + 1) (owns .owner)
+      ∙ put-owner-same 10 (pageOwnersAt (head z)) (z .table) p (c + 1) (owns .owner) (omega arith)
 
   page-is : paged (head z) z c (Dense p) p page ≡ mem (putPage (head z) (z .pages) p page) (z .rows) (z .blocks) (z .table)
   unfolding paged

@@ -20,10 +20,14 @@ owners-are-requires c κs = search needs
 ranks-rise-requires : tie.Need-ranks-rise-requires
 ranks-rise-requires c κs = search needs
 
+froms-are-requires : tie.Need-froms-are-requires
+froms-are-requires c κs = search needs
+
 returns : tie.Need-returns
 returns c =
-    table-seen _ _ _ refl _ _ _ _ _ (c .before .before .before .before .before .pass .ensures) _ _ _ _
-    (c .before .before .before .before .zeros64 .ensures) (c .before .before .before .over-is .ensures) (c .before .before .owners-are .ensures) (c .ranks-rise .ensures)
+    table-seen _ _ _ refl _ _ _ _ _ (c .before .before .before .before .before .before .pass .ensures) _ _ _ _ _
+    (c .before .before .before .before .before .zeros64 .ensures) (c .before .before .before .before .over-is .ensures)
+    (c .before .before .before .owners-are .ensures) (c .before .ranks-rise .ensures) (c .froms-are .ensures)
 
 pub table-is-spec : {M : Type 1} → statement M
 table-is-spec =
@@ -34,4 +38,5 @@ table-is-spec =
     over-is-requires
     owners-are-requires
     ranks-rise-requires
+    froms-are-requires
     returns)

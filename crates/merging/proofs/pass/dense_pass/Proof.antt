@@ -2,7 +2,7 @@
 use Prim.Native.Nat.{_+_, _-_, _≤_, _<_}
 use native.Mathlib.Omega.{arith}
 use Rattle.layout.specs.Entries.{entries}
-use Rattle.merging.proofs.Ways.{DenseWay, dense-few, dense-range, dense-start, dense-ready, dense-cursor, dense-more, dense-end}
+use Rattle.merging.proofs.Ways.{DenseWay, dense-few, dense-range, dense-start, dense-ready, dense-more, dense-end}
 use borrow.Author.Needs.{needs}
 use Rattle.merging.proofs.pass.dense_pass.Statement.{statement}
 use Rattle.merging.proofs.pass.dense_pass.Tie as tie
@@ -61,10 +61,8 @@ dense-turn-requires c κs =
 next-page-requires : tie.Need-next-page-requires Inv-loop μ-loop
 next-page-requires c κs =
     let l = c .before .before .before .before .before .before .before .before .before .before .before .before in
-    let a = start l in (
-      dense-range _ _ _ _ _ _ _ _ (a .pre .0) (a .pre .1) (a .pre .2),
-      dense-cursor _ _ _ _ _ _ _ _ (a .pre .0) (a .pre .1) (a .pre .2) _ _ _ _ (l .loop .e) (l .loop .inv),
-    )
+    let a = start l in
+    dense-range _ _ _ _ _ _ _ _ (a .pre .0) (a .pre .1) (a .pre .2)
 
 add-e : tie.Need-add-e Inv-loop μ-loop
 add-e c =

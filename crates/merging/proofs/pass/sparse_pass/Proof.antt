@@ -2,7 +2,7 @@
 use Prim.Native.Nat.{_+_, _-_, _≤_, _<_}
 use native.Mathlib.Omega.{arith}
 use Rattle.layout.specs.Entries.{entries}
-use Rattle.merging.proofs.Ways.{SparseWay, sparse-few, sparse-range, sparse-start, sparse-ready, sparse-cursor, sparse-more, sparse-end}
+use Rattle.merging.proofs.Ways.{SparseWay, sparse-few, sparse-range, sparse-start, sparse-ready, sparse-more, sparse-end}
 use borrow.Author.Needs.{needs}
 use Rattle.merging.proofs.pass.sparse_pass.Statement.{statement}
 use Rattle.merging.proofs.pass.sparse_pass.Tie as tie
@@ -61,10 +61,8 @@ sparse-turn-requires c κs =
 next-row-requires : tie.Need-next-row-requires Inv-loop μ-loop
 next-row-requires c κs =
     let l = c .before .before .before .before .before .before .before .before .before in
-    let a = start l in (
-      sparse-range _ _ _ _ _ _ (a .pre .0) (a .pre .1) (a .pre .2),
-      sparse-cursor _ _ _ _ _ _ (a .pre .0) (a .pre .1) (a .pre .2) _ _ _ (l .loop .e) (l .loop .inv),
-    )
+    let a = start l in
+    sparse-range _ _ _ _ _ _ (a .pre .0) (a .pre .1) (a .pre .2)
 
 add-e : tie.Need-add-e Inv-loop μ-loop
 add-e c =

@@ -5,7 +5,7 @@ use Prim.Native.Nat.{_+_, _-_, _≤_}
 use native.Mathlib.Omega.{arith}
 use Rattle.document.specs.Sizes.{InRange}
 use Rattle.prepare.specs.Ready.{Turnable}
-use Rattle.prepare.proofs.Steady.{Underway, sound-range, underway-none, underway-turn, underway-cursor, underway-more, underway-end}
+use Rattle.prepare.proofs.Steady.{Underway, sound-range, underway-none, underway-turn, underway-more, underway-end}
 use Rattle.prepare.proofs.write.make_all.Statement.{statement}
 use Rattle.prepare.proofs.write.make_all.Tie as tie
 
@@ -45,7 +45,7 @@ make-dense-requires c κs = turnable (c .before .before .before .before) (omega 
 next-page-requires : tie.Need-next-page-requires Inv-loop μ-loop
 next-page-requires c κs =
     let l = c .before .before .before .before .before .before .before .before .before .before .before .before in
-    (range (l .before .before .before), underway-cursor _ _ _ _ (start l .args .c) (start l .pre) _ _ _ _ (l .loop .i) (l .loop .inv))
+    range (l .before .before .before)
 
 add-i : tie.Need-add-i Inv-loop μ-loop
 add-i c =

@@ -1,0 +1,25 @@
+-- The owner of a row, and its word of the header. Assumes nothing.
+use mathlib.Core.Path.{_∙_, ap}
+use Prim.Native.Nat.{ℕ}
+use borrow.Author.Needs.{needs}
+use Rattle.layout.specs.Writes.{putOwner}
+use Rattle.layout_writes.proofs.write.put_row_owner.Statement.{statement}
+use Rattle.layout_writes.proofs.write.put_row_owner.Tie as tie
+
+row-owners-at-requires : tie.Need-row-owners-at-requires
+row-owners-at-requires c κs = search needs
+
+put-owner-requires : tie.Need-put-owner-requires
+put-owner-requires c κs = search needs
+
+same-length : tie.Need-same-length
+same-length c = search needs
+
+returns : tie.Need-returns
+returns c =
+    let a = c .before .before .before .before .before .before .args in
+    c .before .before .put-owner .ensures ∙ ap (λ (n : ℕ). putOwner 9 n (a .table .now) (a .r) (a .w)) (c .before .before .before .row-owners-at .ensures)
+
+pub put-row-owner-spec : {M : Type 1} → statement M
+put-row-owner-spec =
+    tie.close (tie.spec row-owners-at-requires put-owner-requires same-length returns)
