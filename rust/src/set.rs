@@ -214,6 +214,9 @@ impl<M: Memory> Set<M> {
     }
 
     /// Cuts the set into partitions of at most `slots` members; 0 is read as 1.
+    ///
+    /// Takes memory for as many boundaries as the set says that there are: where memory may have been spoiled,
+    /// [`plan_within`](Set::plan_within) says how many at most.
     pub fn plan(&self, slots: u64) -> Result<Plan, Refusal> {
         self.plan_within(slots, usize::MAX)
     }

@@ -1,7 +1,7 @@
 //! Every refusal: its number, its variant, its words, how it comes up, and that nothing changes by it.
 mod common;
 use brothpillow::{Memory, Owned, Plan, RangeList, Refusal, Set, Sizes, Slices, SlicesMut};
-use common::{TINY, copied, ranked, set_of, tiny};
+use common::{Random, TINY, copied, ranked, set_of, tiny};
 use std::error::Error;
 
 #[test]
@@ -96,6 +96,51 @@ fn three_is_handed_on() {
     assert_eq!(set.iter().collect::<Vec<_>>(), [Err(three)]);
     assert_eq!(set.mark_by_range(&mut RangeList::new()), Err(three));
     assert_eq!(tiny().merge_from(&set), Err(three));
+}
+
+/// A call that changes a set, with an id.
+type Call = fn(&mut Set<SlicesMut<'_>>, i64) -> Result<(), Refusal>;
+
+/// On spoiled memory every call answers or refuses; none panics, and what is refused changes nothing.
+#[test]
+fn no_call_panics_on_spoiled_memory() {
+    let mut g = Random::new(7);
+    let sizes = Sizes { s: 9, m: 4, d: 2, v: 3, r: 5, p: 4 };
+    for round in 0..2000 {
+        let mut made = set_of(sizes, (0..g.below(12)).map(|n| (n * 211) as i64));
+        if round % 2 == 0 {
+            made.into_ranked().unwrap();
+        }
+        let (mut pages, mut rows, mut blocks, mut table) = copied(&made);
+        for _ in 0..=g.below(3) {
+            let (at, value) = (g.below(table.len() as u64) as usize, g.next() >> g.below(64));
+            table[at] = value;
+            let (page, row, block) = (g.below(32) as usize, g.below(20) as usize, g.below(4) as usize);
+            (pages[page], rows[row], blocks[block]) = (g.next(), g.next() as u32, g.next() as u32);
+        }
+        let mut set =
+            Set::over(SlicesMut { pages: &mut pages, rows: &mut rows, blocks: &mut blocks, table: &mut table });
+        let id = (g.next() >> g.below(64)) as i64;
+        let _ = (set.check(), set.get(id), set.any_in_range(0, id), set.chunk_of(id), set.len(), set.is_empty());
+        let _ = (set.has_any(), set.allocated_chunk_count(), set.rank(id), set.rank_if_set(id), set.total_count());
+        let _ = set.iter().take(3000).count() + set.range(..id).take(3000).count();
+        let _ = set.plan_within(g.below(9), 100).map(|plan| plan.partitions().count());
+        let _ = set.mark_by_range(&mut RangeList::from_iter([(0, id), (id, 0)]));
+        let calls: [Call; 8] = [
+            |x, id| x.set(id),
+            |x, id| x.set_if_new(id).map(drop),
+            |x, id| x.set_prepared(id).map(drop),
+            |x, id| x.pre_allocate(id),
+            |x, _| x.merge_from(&tiny()),
+            |x, _| x.merge(&mut tiny()),
+            |x, _| x.into_ranked(),
+            |x, _| x.into_open(),
+        ];
+        for call in calls {
+            let before = copied(&set);
+            assert!(call(&mut set, id).is_ok() || copied(&set) == before);
+        }
+    }
 }
 
 /// Memory of a row that falls (docs/EXCEPTIONS.md): its records don't go on, and the iterator ends with a 3.
