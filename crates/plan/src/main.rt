@@ -1,71 +1,34 @@
-// The program: S and ids from standard input; to standard output, the plan or the first fault met.
-mod input;
-mod output;
+// The program: it reads, hands over, and writes. S and ids from standard input; to standard output, the plan or the first fault met.
+// A proved loop has to end, so reads are counted down from a number that no run uses up. A read that fails ends the program without output.
+use intake::input;
+use libc::STDOUT_FILENO;
 
-use cuts::planning;
-use document::answer::Outcome;
-use document::plan::Planning;
-use idset::setup;
-use input::Input;
-use ranked::form;
-
-// Ranks the set, cuts it into partitions of at most s members, and tells the outcome.
-fn tell_plan(
-    pages: &[u64],
-    rows: &[u32],
-    blocks: &mut [u32],
-    table: &mut [u64],
-    s: u64,
-    bounds: &mut [i64],
-) {
-    if let Outcome::Refused(c) = form::into_ranked(pages, rows, blocks, table) {
-        output::refused(c);
-        return;
-    }
-    match planning::plan(pages, rows, blocks, table, s, bounds) {
-        Planning::Made(p) => output::plan(p, bounds),
-        Planning::Refused(c) => output::refused(c),
-    }
-}
-
-// Reads all lines into an empty set, then plans. Only the first fault is told.
-fn run(
-    pages: &mut [u64],
-    rows: &mut [u32],
-    blocks: &mut [u32],
-    table: &mut [u64],
-    bounds: &mut [i64],
-) {
-    match input::read_all(pages, rows, blocks, table) {
-        Input::Whole(s) => tell_plan(pages, rows, blocks, table, s, bounds),
-        Input::Bad(n) => output::bad_line(n),
-        Input::Refused(c) => output::refused(c),
-        Input::Line(_, _, _) => (),
-        Input::Failed => (),
-    }
-}
-
-// The set's memory, of the program's sizes.
+// Memory for the set, of the program's sizes: pages, rows, block counts, table; then boundaries, a part of the input, and a line of the output.
 fn main() {
-    let mut pages = [0u64; 1024];
-    let mut rows = [0u32; 2048];
-    let mut blocks = [0u32; 128];
-    let mut table = [0u64; 144];
-    let mut bounds = [0i64; 256];
-    if let Outcome::Refused(c) = setup::set_up(
-        12,
-        64,
-        16,
-        16,
-        32,
-        16,
-        &mut pages,
-        &mut rows,
-        &mut blocks,
-        &mut table,
-    ) {
-        output::refused(c);
+    let mut p = [0u64; 1024];
+    let mut r = [0u32; 2048];
+    let mut b = [0u32; 128];
+    let mut t = [0u64; 144];
+    let mut c = [0i64; 256];
+    let mut bytes = [0u8; 65536];
+    let mut line = [0u8; 105];
+    let mut at = input::begin(&mut p, &mut r, &mut b, &mut t);
+    let mut got = libc::read(0, &mut bytes);
+    let mut turns = u64::MAX;
+    while 0 < turns && 0 < got {
+        let n = io::count(got, &bytes);
+        at = input::take(&mut p, &mut r, &mut b, &mut t, at, &bytes[..n]);
+        got = libc::read(0, &mut bytes);
+        turns -= 1;
+    }
+    if got != 0 {
         return;
     }
-    run(&mut pages, &mut rows, &mut blocks, &mut table, &mut bounds);
+    let said = planner::tell(&mut p, &mut r, &mut b, &mut t, at, &mut c);
+    let n = texts::first(said, &mut line);
+    io::write_all(STDOUT_FILENO, &line[..n]);
+    for k in 0..texts::count(said) {
+        let m = texts::line(said, &c, k, &mut line);
+        io::write_all(STDOUT_FILENO, &line[..m]);
+    }
 }
