@@ -2,3 +2,4 @@
 pub mod append;
 pub mod chunk;
 pub mod direct;
+pub mod whole;

@@ -1,7 +1,7 @@
 // Inserts: `set_if_new`, `set`, and the prepared insert. Each tries the short way into a dense chunk first.
 ghost use mathlib.Core.Path.{_≡_};
 ghost use Rattle.layout.specs.Mem.{memOf};
-ghost use Rattle.calls.specs.Insert.{told, insertBy, preparedBy};
+ghost use Rattle.calls.specs.Insert.{told, preparedBy};
 ghost use Rattle.document.specs.Insert.{done};
 ghost use Rattle.document.specs.Calls.{insert, put, prepared, whether, that};
 ghost use Rattle.contracts.specs.Does.{Does};
@@ -9,54 +9,13 @@ use document::answer::Outcome;
 use document::answer::Truth;
 use document::refusal;
 use insert_plan::gate;
-use insert_ways::append;
 use insert_ways::chunk;
 use insert_ways::direct;
 use insert_ways::direct::Direct;
+use insert_ways::whole;
 use layout::head;
 use numbers::Split;
 use numbers::id as ids;
-
-// The whole way: `set_if_new` into any chunk.
-fn anywhere(
-    pages: &mut [u64],
-    rows: &mut [u32],
-    blocks: &[u32],
-    table: &mut [u64],
-    id: i64,
-) -> Truth
-    ensures { λ r. ⌜ (let x = memOf (pages .entry) (rows .entry) (blocks .entry) (table .entry) in
-        let y = memOf (pages .exit) (rows .exit) (blocks .entry) (table .exit) in
-        told r y ≡ insertBy x id) ⌝ }
-{
-    let n = gate::refusal(table);
-    if n != 0 {
-        return Truth::Refused(n);
-    }
-    let s = head::shift(table);
-    let Split::At(c, o) = ids::split(id, s) else {
-        return Truth::Is(false);
-    };
-    chunk::put(pages, rows, blocks, table, s, c, o)
-}
-
-// What the dense way leaves: to the end of a row, or the whole way.
-fn otherwise(
-    pages: &mut [u64],
-    rows: &mut [u32],
-    blocks: &[u32],
-    table: &mut [u64],
-    id: i64,
-) -> Truth
-    ensures { λ r. ⌜ (let x = memOf (pages .entry) (rows .entry) (blocks .entry) (table .entry) in
-        let y = memOf (pages .exit) (rows .exit) (blocks .entry) (table .exit) in
-        told r y ≡ insertBy x id) ⌝ }
-{
-    if append::put(pages, rows, blocks, table, id) {
-        return Truth::Is(true);
-    }
-    anywhere(pages, rows, blocks, table, id)
-}
 
 // Inserts an id, and answers whether it is new.
 pub fn set_if_new(
@@ -72,7 +31,7 @@ pub fn set_if_new(
 {
     match direct::put(pages, rows, blocks, table, id) {
         Direct::Is(b) => Truth::Is(b),
-        Direct::Elsewhere => otherwise(pages, rows, blocks, table, id),
+        Direct::Elsewhere => whole::anywhere(pages, rows, blocks, table, id),
     }
 }
 
@@ -100,7 +59,7 @@ pub fn set(
 {
     match direct::put(pages, rows, blocks, table, id) {
         Direct::Is(_) => Outcome::Done,
-        Direct::Elsewhere => drop_answer(otherwise(pages, rows, blocks, table, id)),
+        Direct::Elsewhere => drop_answer(whole::anywhere(pages, rows, blocks, table, id)),
     }
 }
 

@@ -21,8 +21,8 @@ enum-told c = search needs
 enum-told-2 : tie.Need-enum-told-2
 enum-told-2 c = search needs
 
-otherwise-requires : tie.Need-otherwise-requires
-otherwise-requires c κs = search needs
+anywhere-requires : tie.Need-anywhere-requires
+anywhere-requires c κs = search needs
 
 drop-answer-requires : tie.Need-drop-answer-requires
 drop-answer-requires c κs = search needs
@@ -61,7 +61,7 @@ returns-2 : tie.Need-returns-2
 returns-2 c =
     let a = c .before .before .before .before .before .before .before .before .before .before .before .before .before .before .before .before .before .before .before .before .before .before .before .before .before in
     sets (memory a) (a .args .id) (a .fits .id) (c .drop-answer .ensures)
-    (then-insert (memory a) _ _ _ (c .before .before .before .before .before .before .before .before .before .before .before .before .before .before .before .before .put .ensures) (c .before .before .before .before .before .before .before .before .before .before .before .before .enum-told2 .given .1) _ _ (c .before .before .before .before .before .before .before .otherwise .ensures) ∙ hop (insertBy (memory a)) (a .args .id) (a .fits .id))
+    (then-insert (memory a) _ _ _ (c .before .before .before .before .before .before .before .before .before .before .before .before .before .before .before .before .put .ensures) (c .before .before .before .before .before .before .before .before .before .before .before .before .enum-told2 .given .1) _ _ (c .before .before .before .before .before .before .before .anywhere .ensures) ∙ hop (insertBy (memory a)) (a .args .id) (a .fits .id))
 
 pub set-spec : {M : Type 1} → statement M
 set-spec =
@@ -70,7 +70,7 @@ set-spec =
     put-requires
     enum-told
     enum-told-2
-    otherwise-requires
+    anywhere-requires
     drop-answer-requires
     same-length
     same-length-2

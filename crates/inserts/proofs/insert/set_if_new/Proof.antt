@@ -21,8 +21,8 @@ enum-known-b c = search needs
 enum-told : tie.Need-enum-told
 enum-told c = search needs
 
-otherwise-requires : tie.Need-otherwise-requires
-otherwise-requires c κs = search needs
+anywhere-requires : tie.Need-anywhere-requires
+anywhere-requires c κs = search needs
 
 same-length : tie.Need-same-length
 same-length c = search needs
@@ -58,7 +58,7 @@ returns-2 : tie.Need-returns-2
 returns-2 c =
     let a = c .before .before .before .before .before .before .before .before .before .before .before .before .before .before .before .before .before .before .before .before .before .before .before .before in
     sets-if-new (memory a) (a .args .id) (a .fits .id)
-    (then-insert (memory a) _ _ _ (c .before .before .before .before .before .before .before .before .before .before .before .before .before .before .before .put .ensures) (c .before .before .before .before .before .before .before .before .before .before .before .enum-told .given .1) _ _ (c .before .before .before .before .before .before .otherwise .ensures) ∙ hop (insertBy (memory a)) (a .args .id) (a .fits .id))
+    (then-insert (memory a) _ _ _ (c .before .before .before .before .before .before .before .before .before .before .before .before .before .before .before .put .ensures) (c .before .before .before .before .before .before .before .before .before .before .before .enum-told .given .1) _ _ (c .before .before .before .before .before .before .anywhere .ensures) ∙ hop (insertBy (memory a)) (a .args .id) (a .fits .id))
 
 pub set-if-new-spec : {M : Type 1} → statement M
 set-if-new-spec =
@@ -67,7 +67,7 @@ set-if-new-spec =
     put-requires
     enum-known-b
     enum-told
-    otherwise-requires
+    anywhere-requires
     same-length
     same-length-2
     same-length-3

@@ -3,10 +3,10 @@ use mathlib.Core.Path.{_∙_}
 use Rattle.numbers.proofs.Signs.{hop}
 use Rattle.layout.specs.Mem.{Mem, memOf}
 use Rattle.calls.specs.Insert.{insertBy}
 use Rattle.insert_ways.proofs.Ways.{appended, appended-not}
 use borrow.Author.Needs.{needs}
-use Rattle.inserts.proofs.insert.otherwise.Statement.{statement}
-use Rattle.inserts.proofs.insert.otherwise.Tie as tie
+use Rattle.insert_ways.proofs.whole.anywhere.Statement.{statement}
+use Rattle.insert_ways.proofs.whole.anywhere.Tie as tie
 
 abbrev memory : tie.Start → Mem
 memory c = memOf (c .args .pages) (c .args .rows) (c .args .blocks) (c .args .table)
@@ -28,8 +28,8 @@ returns c =
     let a = c .before .before .before .before .before .before .before .before .before .before .before .before .before in
     appended (memory a) _ _ _ (c .before .before .before .before .before .put .ensures) (c .if1 .taken) ∙ hop (insertBy (memory a)) (a .args .id) (a .fits .id)
 
-anywhere-requires : tie.Need-anywhere-requires
-anywhere-requires c κs = search needs
+planned-requires : tie.Need-planned-requires
+planned-requires c κs = search needs
 
 same-length-4 : tie.Need-same-length-4
 same-length-4 c = search needs
@@ -43,11 +43,11 @@ same-length-6 c = search needs
 returns-2 : tie.Need-returns-2
 returns-2 c =
     let a = c .before .before .before .before .before .before .before .before .before .before .before .before .before .before .before .before .before .before .before .before .before .before .before in
-    appended-not (memory a) _ _ _ (c .before .before .before .before .before .before .before .before .before .before .before .before .before .before .before .put .ensures) (c .before .before .before .before .before .before .before .before .before .before .if1 .left) _ _ (c .before .before .before .before .before .before .anywhere .ensures)
+    appended-not (memory a) _ _ _ (c .before .before .before .before .before .before .before .before .before .before .before .before .before .before .before .put .ensures) (c .before .before .before .before .before .before .before .before .before .before .if1 .left) _ _ (c .before .before .before .before .before .before .planned .ensures)
     ∙ hop (insertBy (memory a)) (a .args .id) (a .fits .id)
 
-pub otherwise-spec : {M : Type 1} → statement M
-otherwise-spec =
+pub anywhere-spec : {M : Type 1} → statement M
+anywhere-spec =
     tie.close
     (tie.spec
     put-requires
@@ -55,7 +55,7 @@ otherwise-spec =
     same-length-2
     same-length-3
     returns
-    anywhere-requires
+    planned-requires
     same-length-4
     same-length-5
     same-length-6

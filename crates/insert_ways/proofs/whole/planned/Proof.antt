@@ -7,8 +7,8 @@ use Rattle.layout.specs.Mem.{Mem, memOf}
 use Rattle.calls.proofs.Shifts.{Shift, shift-64, split-is, chunk-small}
 use Rattle.insert_plan.proofs.Gates.{open-shift, insert-refused, insert-negative, insert-at}
 use borrow.Author.Needs.{needs}
-use Rattle.inserts.proofs.insert.anywhere.Statement.{statement}
-use Rattle.inserts.proofs.insert.anywhere.Tie as tie
+use Rattle.insert_ways.proofs.whole.planned.Statement.{statement}
+use Rattle.insert_ways.proofs.whole.planned.Tie as tie
 
 abbrev memory : tie.Start → Mem
 memory c = memOf (c .args .pages) (c .args .rows) (c .args .blocks) (c .args .table)
@@ -81,8 +81,8 @@ returns-3 c =
     (k .before .before .before .before .before .before .before .refusal .ensures)
     (k .before .before .before .before .before .before .if1 .left) _ (k .before .before .before .before .shift .ensures) _ _ (lies k)
 
-pub anywhere-spec : {M : Type 1} → statement M
-anywhere-spec =
+pub planned-spec : {M : Type 1} → statement M
+planned-spec =
     tie.close
     (tie.spec
     refusal-requires
