@@ -1,7 +1,7 @@
 //! The calls on lent memory, through the crate in rust/: entries and answers as C has them.
 use crate::memory::Memory;
 use brothpillow::Sizes;
-use brothpillow::sys::{self, Done, Listing, Number, Optional, Truth};
+use brothpillow::sys::{self, Done, Inserted, Listing, Number, Optional, Truth};
 
 /// How memory is lent, then calls, each with its arguments behind the set.
 macro_rules! calls {
@@ -51,6 +51,24 @@ impl Memory {
 
     pub fn bp_merge(&mut self, from: &mut Memory) -> Done {
         sys::merge(self.slices_mut(), from.slices_mut())
+    }
+
+    /// Of each id whether it is a member, here and below as many answers as the shorter of the two has.
+    pub fn bp_get_all(&self, ids: &[i64], answers: &mut [u8]) -> Done {
+        sys::get_all(ids, answers, self.slices())
+    }
+
+    pub fn bp_rank_all(&self, ids: &[i64], answers: &mut [u64]) -> Done {
+        sys::rank_all(ids, answers, self.slices())
+    }
+
+    pub fn bp_rank_if_set_all(&self, ids: &[i64], answers: &mut [u64]) -> Done {
+        sys::rank_if_set_all(ids, answers, self.slices())
+    }
+
+    /// Inserts ids up to the first that is refused.
+    pub fn bp_insert_all(&mut self, ids: &[i64]) -> Inserted {
+        sys::insert_all(ids, self.slices_mut())
     }
 
     /// Marks of a range list by range test: as many as the shortest of the three has.

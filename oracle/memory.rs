@@ -1,6 +1,6 @@
 //! Memory that is lent to the library, full of marks at first, and how long the sizes of a set want it.
 pub use brothpillow::Sizes;
-pub use brothpillow::sys::{Done, Listing, Number, Optional, Truth};
+pub use brothpillow::sys::{Done, Inserted, Listing, Number, Optional, Truth};
 use brothpillow::{Slices, SlicesMut};
 
 pub const DONE: Done = Done { refusal: 0 };

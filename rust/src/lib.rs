@@ -47,7 +47,7 @@ pub use memory::{Memory, MemoryMut, Owned, Slices, SlicesMut};
 pub use plan::{Interval, Partition, Partitions, Plan};
 pub use ranges::RangeList;
 pub use refusal::Refusal;
-pub use set::Set;
+pub use set::{Inserted, NO_RANK, Set};
 pub use sizes::{Lengths, Sizes};
 
 /// The slots that a budget of bytes buys, at least 1.

@@ -38,6 +38,28 @@ pub struct Set<M = Owned> {
     memory: M,
 }
 
+/// What [`Set::rank_if_set_all`] says of an id that is no member; no rank is that large.
+pub const NO_RANK: u64 = u64::MAX;
+
+/// How far [`Set::insert_all`] came.
+#[derive(Clone, Copy, Debug, PartialEq, Eq)]
+#[must_use = "ids behind one that was refused are not inserted"]
+pub struct Inserted {
+    /// How many ids were taken, from the first on.
+    pub taken: u64,
+    /// How many of them were new.
+    pub fresh: u64,
+    /// Why the next id was refused, if there is one.
+    pub refusal: Option<Refusal>,
+}
+
+impl Inserted {
+    /// How many were new, where all were taken.
+    pub fn all(self) -> Result<u64, Refusal> {
+        self.refusal.map_or(Ok(self.fresh), Err)
+    }
+}
+
 impl Done {
     #[inline]
     fn result(self) -> Result<(), Refusal> {
@@ -139,6 +161,23 @@ impl<M: Memory> Set<M> {
         sys::allocated_chunk_count(self.slices()).result()
     }
 
+    /// Whether each of these ids is a member, 1 or 0, as single calls one after the other would say it, and faster. As
+    /// many answers are written as the shorter of the two lists has; a refusal writes none.
+    ///
+    /// ```
+    /// use brothpillow::{Refusal, Set, Sizes};
+    ///
+    /// let mut set = Set::new(Sizes { s: 9, m: 4, d: 2, v: 0, r: 2, p: 0 })?;
+    /// set.insert_all(&[5, 600]).all()?;
+    /// let mut answers = [0; 3];
+    /// set.get_all(&[600, 7, -1], &mut answers)?;
+    /// assert_eq!(answers, [1, 0, 0]);
+    /// # Ok::<(), Refusal>(())
+    /// ```
+    pub fn get_all(&self, ids: &[i64], answers: &mut [u8]) -> Result<(), Refusal> {
+        sys::get_all(ids, answers, self.slices()).result()
+    }
+
     /// All members, ascending.
     ///
     /// ```
@@ -208,6 +247,16 @@ impl<M: Memory> Set<M> {
         sys::rank_if_set(self.slices(), id).result()
     }
 
+    /// The rank of each of these ids, as many as the shorter of the two lists has; a refusal writes none.
+    pub fn rank_all(&self, ids: &[i64], ranks: &mut [u64]) -> Result<(), Refusal> {
+        sys::rank_all(ids, ranks, self.slices()).result()
+    }
+
+    /// The rank of each member among these ids, and [`NO_RANK`] for any other.
+    pub fn rank_if_set_all(&self, ids: &[i64], ranks: &mut [u64]) -> Result<(), Refusal> {
+        sys::rank_if_set_all(ids, ranks, self.slices()).result()
+    }
+
     /// How many members there are.
     pub fn total_count(&self) -> Result<u64, Refusal> {
         sys::total_count(self.slices()).result()
@@ -256,6 +305,12 @@ impl<M: MemoryMut> Set<M> {
     #[inline]
     pub fn set_if_new(&mut self, id: i64) -> Result<bool, Refusal> {
         sys::set_if_new(self.memory.slices_mut(), id).result()
+    }
+
+    /// Inserts ids in turn, up to the first that is refused; those before it stay in the set.
+    pub fn insert_all(&mut self, ids: &[i64]) -> Inserted {
+        let sys::Inserted { taken, fresh, refusal } = sys::insert_all(ids, self.memory.slices_mut());
+        Inserted { taken, fresh, refusal: Refusal::unless_zero(refusal).err() }
     }
 
     /// Inserts the id into a chunk that is dense already and says whether it is new; refused with 9 where it is not.

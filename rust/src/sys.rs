@@ -4,7 +4,8 @@
 //! else that reads or writes a `&mut` one. No call keeps a pointer, and none asks anything of what memory holds: each
 //! ends and does nothing undefined whatever stands there. So every function here is safe.
 //!
-//! In every answer `refusal` is 0 or document 01's number, and beside a number every other field is 0.
+//! In every answer `refusal` is 0 or document 01's number, and beside a number every other field is 0, but those of
+//! [`Inserted`].
 #![allow(unsafe_code)]
 use crate::memory::{Slices, SlicesMut};
 use crate::sizes::Sizes;
@@ -103,6 +104,18 @@ pub struct RankedSpan {
     pub first: u64,
     /// How many there are.
     pub count: u64,
+}
+
+/// How far inserts of a list came. What was taken before a refusal stays in the set, and is said beside it.
+#[repr(C)]
+#[derive(Clone, Copy, Debug, PartialEq, Eq)]
+pub struct Inserted {
+    /// How many ids were taken, from the first on.
+    pub taken: u64,
+    /// How many of them were new.
+    pub fresh: u64,
+    /// 0, or the refusal of the next id.
+    pub refusal: u64,
 }
 
 /// The three numbers of a plan, as `plan` answered them or as a caller made them up.
@@ -222,6 +235,14 @@ entries! {
     mark_ends_by_range = bp_mark_ends_by_range(lows: &[i64], highs: &[i64], marks: &mut [u8], x: Slices) -> Done;
     /// Marks ranges that meet partition k with 1, others with 0: as many as the shortest of the three has.
     mark_ends_by_partition = bp_mark_ends_by_partition(lows: &[i64], highs: &[i64], marks: &mut [u8], plan: Record, bounds: &[i64], k: u64) -> Done;
+    /// Whether each id is a member, 1 or 0: as many as the shorter of the two has.
+    get_all = bp_get_all(ids: &[i64], answers: &mut [u8], x: Slices) -> Done;
+    /// The rank of each id: as many as the shorter of the two has.
+    rank_all = bp_rank_all(ids: &[i64], answers: &mut [u64], x: Slices) -> Done;
+    /// The rank of each member, 2^64 - 1 for any other id: as many as the shorter of the two has.
+    rank_if_set_all = bp_rank_if_set_all(ids: &[i64], answers: &mut [u64], x: Slices) -> Done;
+    /// Inserts ids up to the first that is refused.
+    insert_all = bp_insert_all(ids: &[i64], x: SlicesMut) -> Inserted;
     /// The slots that a budget of bytes buys.
     slots_for_budget = bp_slots_for_budget(bytes: u64) -> u64;
     /// The smaller of a file's claim and what its length allows.

@@ -7,7 +7,7 @@ const PAGE: &str = include_str!("../../docs/CALLS.md");
 
 /// Each line with what it gives, on the sets that the page names; each begins anew.
 macro_rules! worked {
-    ($x:ident $y:ident $z:ident $plan:ident $list:ident: $($line:expr;)*) => {
+    ($x:ident $y:ident $z:ident $plan:ident $list:ident $bytes:ident $ranks:ident: $($line:expr;)*) => {
         [$({
             #[allow(unused_variables, unused_mut)]
             let (mut $x, mut $y, mut $z) = (set_of(TINY, MEMBERS), ranked(TINY, MEMBERS), tiny());
@@ -15,6 +15,8 @@ macro_rules! worked {
             let $plan = $y.plan(3).expect("a ranked set");
             #[allow(unused_variables, unused_mut)]
             let mut $list = RangeList::from_iter([(0, 4), (6, 8)]);
+            #[allow(unused_variables, unused_mut)]
+            let (mut $bytes, mut $ranks) = ([7u8; 3], [7u64; 3]);
             (stringify!($line).to_string(), format!("{:?}", $line))
         }),*]
     };
@@ -30,7 +32,7 @@ fn stated() -> Vec<(String, String)> {
 
 #[test]
 fn every_worked_line() {
-    let ran = worked! { x y z plan list:
+    let ran = worked! { x y z plan list bytes ranks:
         Set::new(Sizes { s: 8, ..TINY }).err();
         (x.check(), Set::over(Slices { table: &[], ..x.slices() }).check());
         (x.set_if_new(3), x.set_if_new(3), x.set_if_new(-1), x.len());
@@ -48,6 +50,9 @@ fn every_worked_line() {
         (x.into_ranked(), x.set(1), x.into_open(), x.set(1));
         (y.rank(9), y.rank(10), y.rank(-3), y.rank_if_set(7), y.rank_if_set(8), y.total_count());
         (x.rank(9), x.total_count());
+        (x.get_all(&[5, 6], &mut bytes), bytes);
+        (y.rank_all(&[9, 10], &mut ranks), y.rank_if_set_all(&[9], &mut ranks[1..]), ranks);
+        z.insert_all(&[0, 0, 512, 1024, 1]);
         (y.plan(3).map(|p| p.boundaries().to_vec()), y.plan_within(1, 2).err(), x.plan(3).err());
         (plan.ids(0), plan.ids(1), plan.ids(2));
         (plan.ranks(0), plan.ranks(1));

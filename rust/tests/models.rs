@@ -1,6 +1,6 @@
 //! Iterators, ranks and plans against plain sets, over random sets at several sizes.
 mod common;
-use brothpillow::{RangeList, Refusal, Set, Sizes};
+use brothpillow::{NO_RANK, RangeList, Refusal, Set, Sizes};
 use common::{Random, listed};
 use std::collections::BTreeSet;
 use std::ops::Bound;
@@ -93,6 +93,34 @@ fn ranks_are_places() {
         }
         set.into_open().unwrap();
         assert!(set.check() && listed(&set).into_iter().eq(plain));
+    });
+}
+
+/// Calls over a list are the single calls in turn, as many as the shorter list has.
+#[test]
+fn lists_are_single_calls() {
+    each(|g, mut set, plain| {
+        let ids: Vec<i64> = (0..g.below(90)).map(|_| end(g, &plain)).collect();
+        let mut answers = vec![7; ids.len() + 2];
+        set.get_all(&ids, &mut answers).unwrap();
+        assert!(ids.iter().zip(&answers).all(|(&id, &answer)| set.get(id) == Ok(answer == 1)));
+        assert_eq!(answers[ids.len()..], [7, 7]);
+        let mut ranks = vec![7; ids.len() / 2];
+        assert_eq!(set.rank_all(&ids, &mut ranks), Err(Refusal::IsOpen));
+        assert!(ranks.iter().all(|&rank| rank == 7));
+        let mut single = set.clone();
+        let done = set.insert_all(&ids);
+        let in_turn: Vec<_> = ids.iter().map(|&id| single.set_if_new(id)).take_while(Result::is_ok).collect();
+        assert_eq!(done.taken, in_turn.len() as u64);
+        assert_eq!(done.fresh, in_turn.iter().filter(|new| **new == Ok(true)).count() as u64);
+        assert_eq!((done.refusal.is_none(), done.all().is_ok()), (in_turn.len() == ids.len(), done.refusal.is_none()));
+        set.into_ranked().unwrap();
+        set.rank_all(&ids, &mut ranks).unwrap();
+        assert!(ids.iter().zip(&ranks).all(|(&id, &rank)| set.rank(id) == Ok(rank)));
+        set.rank_if_set_all(&ids, &mut ranks).unwrap();
+        assert!(
+            ids.iter().zip(&ranks).all(|(&id, &rank)| set.rank_if_set(id) == Ok(Some(rank).filter(|&r| r != NO_RANK)))
+        );
     });
 }
 
