@@ -21,6 +21,7 @@ mod memory;
 mod picture;
 #[allow(dead_code)]
 mod planning;
+mod row_sizes;
 mod rows;
 mod sides;
 mod table;
@@ -92,6 +93,7 @@ fn calls(scale: &Scale, picture: &str) {
     let (mut table, quiet, begin) = (Table::new(), Quiet::begin(), Instant::now());
     dense::run(scale, &mut table);
     rows::run(scale, &mut table);
+    row_sizes::run(scale, &mut table);
     unions::run(scale, &mut table);
     growth::run(scale, &mut table);
     println!("On {}. The machine was {}.", machine::kind(), quiet.told());

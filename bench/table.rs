@@ -12,7 +12,7 @@ pub const US: Unit = Unit("µs", 1e3);
 pub const MS: Unit = Unit("ms", 1e6);
 
 /// The rows in a reader's order.
-const ROWS: [(&str, Unit); 24] = [
+const ROWS: [(&str, Unit); 28] = [
     ("insert rising, dense", NS),
     ("insert random, dense", NS),
     ("`set` rising, dense, of members", NS),
@@ -20,7 +20,11 @@ const ROWS: [(&str, Unit); 24] = [
     ("`rank` random", NS),
     ("`rank_if_set` random", NS),
     ("insert rising into rows", NS),
+    ("insert rising at the end of rows", NS),
     ("`get` random in rows", NS),
+    ("`get` random in eight rows", NS),
+    ("`get` random in eight rows of eight", NS),
+    ("`get` random in rows of eight", NS),
     ("ranking", MS),
     ("a boundary of a plan of 200", US),
     ("`allocated_chunk_count`", US),
