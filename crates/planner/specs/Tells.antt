@@ -1,12 +1,16 @@
 -- What the program says: on any memory, and in document 01's words for all of its input.
 use mathlib.Core.Path.{_≡_}
-use mathlib.Core.Bool.{true}
+use mathlib.Core.Bool.{true, cond}
 use mathlib.Core.List.{List}
-use Prim.Native.Nat.{ℕ}
+use Prim.Native.Nat.{ℕ, _-_}
+use lib.Dec.{ltb}
 use lib.IntN.{ℤ}
+use Rattle.sums.specs.Ids.{total}
+use Rattle.sums.specs.Cuts.{parts}
 use Rattle.document.specs.State.{State, empty}
 use Rattle.document.specs.Answers.{inMode}
 use Rattle.document.specs.Plan.{PlansFor}
+use Rattle.document.specs.Refusals.{no-room}
 use Rattle.document.specs.declared.answer.Outcome.{Outcome}
 use Rattle.document.specs.declared.answer.Outcome.the-variants as outcome
 use Rattle.document.specs.declared.plan.Planning.{Planning}
@@ -22,6 +26,11 @@ use Rattle.program.specs.declared.Ended.the-variants as ended
 use Rattle.program.specs.declared.Said.{Said}
 use Rattle.program.specs.declared.Said.the-variants as said
 use Rattle.intake.specs.Puts.{sizes, putBy, putIn, begun}
+use Rattle.texts.specs.Text.{badText, refusedText, setText}
+
+-- places for boundaries
+abbrev pub room : ℕ
+room = 256
 
 -- the plan, or planning's refusal
 abbrev pub sayPlan : Planning → Said
@@ -83,3 +92,18 @@ programRun input = runAll putIn (empty sizes) input
 -- the program on all of its input
 abbrev pub ProgramSays : List ℕ → List ℤ → Said → List ℤ → Type 0
 ProgramSays input bs r cs = Says (programRun input .ended) (programRun input .left) bs r cs
+
+-- ---- the text for an input
+
+-- planning is refused with 11 exactly when partitions less 1 exceeds the room
+abbrev pub plannedText : State → ℕ → List ℕ
+plannedText q S = cond (ltb room (parts (total (q .members)) S - 1)) (refusedText no-room) (setText (q .members) S)
+
+abbrev pub endText : Ended → State → List ℕ
+endText (ended.Whole s) q = plannedText q s
+endText (ended.Bad n) q = badText n
+endText (ended.Refused c) q = refusedText c
+
+-- what the program has to write for all of its input
+abbrev pub programText : List ℕ → List ℕ
+programText input = endText (programRun input .ended) (programRun input .left)

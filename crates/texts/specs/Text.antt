@@ -1,7 +1,10 @@
 -- The program's text: a plan, `bad line N`, `refused C`.
 use mathlib.Core.List.{List, [], _∷_, _++_}
-use Prim.Native.Nat.{ℕ, zero, suc}
+use Prim.Native.Nat.{ℕ, zero, suc, _*_}
 use lib.IntN.{ℤ, pos, negsuc}
+use Rattle.sums.specs.Ids.{Ids, total}
+use Rattle.sums.specs.Cuts.{size, parts, End, before, none, Interval, held, part}
+use Rattle.document.specs.Plan.{planOf}
 use Rattle.document.specs.Spans.{idsAnswer, ranksAnswer}
 use Rattle.document.specs.declared.plan.Plan.{Plan}
 use Rattle.document.specs.declared.plan.Span.{Span}
@@ -60,6 +63,26 @@ partsText p bs (suc k) = partsText p bs k ++ partText p bs k
 
 abbrev pub planText : Plan → List ℤ → List ℕ
 planText p bs = headText p ++ partsText p bs (p .partitions)
+
+-- ---- the plan of a plain set
+
+abbrev pub highText : End → List ℕ
+highText (before z) = endText z
+highText none = 32 ∷ 101 ∷ 110 ∷ 100 ∷ []
+
+abbrev pub intervalText : Interval → List ℕ
+intervalText i = endText (i .low) ++ highText (i .high)
+
+-- part k of the set: its ids, its first rank, its members
+abbrev pub setPartText : Ids → ℕ → ℕ → List ℕ
+setPartText P S k = decimal k ++ (intervalText (part P S k) ++ ((spaced (k * size S) ++ spaced (held P (part P S k))) ++ newline))
+
+unfoldable pub setPartsText : Ids → ℕ → ℕ → List ℕ
+setPartsText P S zero = []
+setPartsText P S (suc k) = setPartsText P S k ++ setPartText P S k
+
+abbrev pub setText : Ids → ℕ → List ℕ
+setText P S = headText (planOf (total P) S) ++ setPartsText P S (parts (total P) S)
 
 -- ---- faults
 
