@@ -1,5 +1,5 @@
 //! Every short sequence of calls, on one set and on two; after each of them everything is asked.
-use crate::call::{Call, Ranges, Said, Sizes};
+use crate::call::{Call, Ids, Ranges, Said, Sizes};
 use crate::rust::BOUNDARIES;
 use crate::script::Script;
 
@@ -94,6 +94,9 @@ impl Script<'_> {
             self.say(k, call);
         }
         ids.iter().for_each(|&id| _ = self.say(k, Call::Get(id)));
+        let few = Ids::new(&ids[..ids.len().min(8)], [0; 2]);
+        self.say(k, Call::GetAll(few));
+        self.say(k, Call::RankAll(few));
         self.ask_ranges(k, ids);
         self.say(k, Call::RankUp);
         self.say(k, Call::Check);
@@ -102,6 +105,8 @@ impl Script<'_> {
             self.say(k, Call::Rank(id));
             self.say(k, Call::RankIf(id));
         }
+        self.say(k, Call::RankAll(few));
+        self.say(k, Call::RankIfAll(few));
         for slots in 0..4 {
             for room in [0, 1, 3, BOUNDARIES as u64] {
                 if let Said::Planned(record, _) = self.say(k, Call::Plan { slots, room }) {
@@ -113,6 +118,8 @@ impl Script<'_> {
             }
         }
         self.say(k, Call::Open);
+        self.say(k, Call::InsertAll(few));
+        self.say(k, Call::GetAll(few));
         self.say(k, Call::Check);
     }
 }

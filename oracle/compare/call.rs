@@ -36,6 +36,32 @@ impl fmt::Display for Ranges {
     }
 }
 
+/// One to eight ids. Where the library is linked, ids and answers are lent with so many more elements, one of them with none.
+#[derive(Clone, Copy, PartialEq, Debug)]
+pub struct Ids {
+    all: [i64; 8],
+    count: usize,
+    pub more: [usize; 2],
+}
+
+impl Ids {
+    pub fn new(ids: &[i64], more: [usize; 2]) -> Ids {
+        let mut all = [0; 8];
+        all[..ids.len()].copy_from_slice(ids);
+        Ids { all, count: ids.len(), more }
+    }
+
+    pub fn ids(&self) -> &[i64] {
+        &self.all[..self.count]
+    }
+}
+
+impl fmt::Display for Ids {
+    fn fmt(&self, f: &mut fmt::Formatter) -> fmt::Result {
+        self.ids().iter().try_for_each(|id| write!(f, " {id}"))
+    }
+}
+
 #[derive(Clone, Copy, PartialEq, Debug)]
 pub enum Call {
     SetUp(Sizes),
@@ -55,6 +81,10 @@ pub enum Call {
     Chunk(i64),
     Iter(i64),
     Mark(Ranges),
+    GetAll(Ids),
+    RankAll(Ids),
+    RankIfAll(Ids),
+    InsertAll(Ids),
     RankUp,
     Open,
     Rank(i64),
@@ -88,6 +118,10 @@ impl Call {
             Call::Chunk(id) => format!("chunk {k} {id}"),
             Call::Iter(start) => format!("iter {k} {start}"),
             Call::Mark(ranges) => format!("mark {k}{ranges}"),
+            Call::GetAll(ids) => format!("getall {k}{ids}"),
+            Call::RankAll(ids) => format!("rankall {k}{ids}"),
+            Call::RankIfAll(ids) => format!("rankifall {k}{ids}"),
+            Call::InsertAll(ids) => format!("insertall {k}{ids}"),
             Call::RankUp => format!("rankup {k}"),
             Call::Open => format!("open {k}"),
             Call::Rank(id) => format!("rank {k} {id}"),
@@ -113,7 +147,7 @@ impl Call {
 
     /// Whether an accepted call may change a set's memory. Planning writes boundaries alone.
     pub fn writes(&self) -> bool {
-        self.is_union() || matches!(self, Call::SetUp(_) | Call::Set(_) | Call::New(_) | Call::Put(_) | Call::Prepare(_) | Call::RankUp | Call::Open)
+        self.is_union() || matches!(self, Call::SetUp(_) | Call::Set(_) | Call::New(_) | Call::Put(_) | Call::Prepare(_) | Call::InsertAll(_) | Call::RankUp | Call::Open)
     }
 }
 
@@ -130,6 +164,10 @@ pub enum Said {
     /// A record of iteration: its ids, the end mark, the next start.
     Listed { ids: Vec<i64>, end: bool, next: i64 },
     Marks(Vec<bool>),
+    /// Ranks of a list, none where an id has none.
+    Ranks(Vec<Option<u64>>),
+    /// Ids taken, those of them that were new, and 0 or what refused the next one.
+    Inserted { taken: u64, fresh: u64, refusal: u64 },
     /// What `ids` and `ranks` say of a partition.
     Part { ids: Result<(i64, Option<i64>), u64>, ranks: Result<(u64, u64), u64> },
 }
@@ -138,6 +176,8 @@ impl Said {
     pub fn refusal(&self) -> Option<u64> {
         match *self {
             Said::Refused(c) | Said::Part { ids: Err(c), .. } => Some(c),
+            // one that took no id changed nothing
+            Said::Inserted { taken: 0, refusal, .. } => (refusal != 0).then_some(refusal),
             _ => None,
         }
     }
@@ -162,6 +202,12 @@ impl fmt::Display for Said {
                 ids.iter().try_for_each(|id| write!(f, " {id}"))
             }
             Said::Marks(marks) => write!(f, "{}", marks.iter().map(|&m| if m { "1" } else { "0" }).collect::<Vec<_>>().join(" ")),
+            Said::Ranks(ranks) => {
+                let words: Vec<String> = ranks.iter().map(|rank| rank.map_or_else(|| "none".to_string(), |n| n.to_string())).collect();
+                write!(f, "{}", words.join(" "))
+            }
+            Said::Inserted { taken, fresh, refusal: 0 } => write!(f, "{taken} {fresh}"),
+            Said::Inserted { taken, fresh, refusal } => write!(f, "{taken} {fresh} refused {refusal}"),
             // as replay says it: where both answer, else what `ids` refuses with
             Said::Part { ids: Err(c), .. } | Said::Part { ranks: Err(c), .. } => write!(f, "refused {c}"),
             Said::Part { ids: Ok((low, high)), ranks: Ok((first, count)) } => {

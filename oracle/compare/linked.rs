@@ -1,9 +1,10 @@
 //! The library linked through `exports`: each call is compared at once, memory after each refusal, each plan and each union, elements past the sizes at
 //! the end.
-use crate::call::{Call, Ranges, Record, Said, Sizes};
+use crate::call::{Call, Ids, Ranges, Record, Said, Sizes};
+use crate::lent;
 use crate::lists;
 use crate::locations;
-use crate::memory::{DONE, Done, Listing, Memory, Needs, Number, Optional, Truth};
+use crate::memory::{DONE, Done, Inserted, Listing, Memory, Needs, Number, Optional, Truth};
 use crate::planning;
 use crate::rust::BOUNDARIES;
 use crate::script::Way;
@@ -82,6 +83,30 @@ fn marked(ranges: &Ranges, call: impl FnOnce(&[i64], &[i64], &mut [u8]) -> Done)
     }
 }
 
+/// Numbers that no call over a list answers.
+const NEITHER: (u8, u64) = (7, 1 << 63);
+
+fn answered<T: Copy + PartialEq>(ids: &Ids, neither: T, call: impl FnOnce(&[i64], &mut [T]) -> Done, said: impl FnOnce(Vec<T>) -> Said) -> Said {
+    match lent::answered(ids.ids(), ids.more, neither, call) {
+        Ok((a, answers)) if a == DONE => said(answers),
+        Ok((a, _)) => ok(a),
+        Err(wrong) => panic!("{wrong}"),
+    }
+}
+
+fn members(answers: Vec<u8>) -> Said {
+    assert!(answers.iter().all(|&answer| answer <= 1), "an answer is neither 0 nor 1");
+    Said::Marks(answers.iter().map(|&answer| answer == 1).collect())
+}
+
+fn ranks(answers: Vec<u64>) -> Said {
+    Said::Ranks(answers.iter().map(|&rank| (rank != u64::MAX).then_some(rank)).collect())
+}
+
+fn inserted(Inserted { taken, fresh, refusal }: Inserted) -> Said {
+    Said::Inserted { taken, fresh, refusal }
+}
+
 impl Set {
     fn answer(&mut self, call: &Call) -> Said {
         let x = &mut self.memory;
@@ -102,6 +127,10 @@ impl Set {
             Call::Chunk(id) => perhaps(x.bp_chunk_of(id)),
             Call::Iter(start) => listed(x.bp_iter_from(start)),
             Call::Mark(ranges) => marked(&ranges, |lows, highs, marks| x.bp_mark_ends_by_range(lows, highs, marks)),
+            Call::GetAll(ids) => answered(&ids, NEITHER.0, |ids, answers| x.bp_get_all(ids, answers), members),
+            Call::RankAll(ids) => answered(&ids, NEITHER.1, |ids, answers| x.bp_rank_all(ids, answers), ranks),
+            Call::RankIfAll(ids) => answered(&ids, NEITHER.1, |ids, answers| x.bp_rank_if_set_all(ids, answers), ranks),
+            Call::InsertAll(ids) => inserted(x.bp_insert_all(ids.ids())),
             Call::RankUp => ok(x.bp_into_ranked()),
             Call::Open => ok(x.bp_into_open()),
             Call::Rank(id) => number(x.bp_rank(id)),

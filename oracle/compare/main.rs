@@ -9,11 +9,13 @@ mod calls;
 mod coord_pack;
 #[allow(dead_code, clippy::all)]
 mod idset;
+mod lent;
 mod linked;
 mod listed;
 mod lists;
 #[allow(dead_code, clippy::all)]
 mod locations;
+mod many;
 mod marking;
 mod marks;
 mod memory;

@@ -36,7 +36,7 @@ impl Script<'_> {
     }
 
     /// An end of i64, a member, a boundary of the last plan, a chunk's first id or any other, or one beside it.
-    fn end(&mut self, k: usize) -> i64 {
+    pub fn end(&mut self, k: usize) -> i64 {
         let id = self.id(2 << self.sizes.s);
         let side = &self.sides[k];
         let at = match self.random.below(8) {

@@ -1,5 +1,5 @@
 //! One set as the Rust has it, with document 01's refusals where the Rust has none: the answer that each call is to give.
-use crate::call::{Call, Ranges, Record, Said, Sizes};
+use crate::call::{Call, Ids, Ranges, Record, Said, Sizes};
 use crate::idset::{IdSet, RankedIdSet};
 use crate::locations;
 use crate::marks::Marked;
@@ -61,6 +61,7 @@ impl Side {
             Call::Part { record, room, k } => self.part(record, room, k, tally),
             Call::Meet { record, room, k, ranges } => self.meet(record, room, k, &ranges, tally),
             Call::Mark(ranges) => self.mark(&ranges, tally),
+            Call::GetAll(ids) | Call::RankAll(ids) | Call::RankIfAll(ids) | Call::InsertAll(ids) => self.many(call, &ids, tally),
             Call::Slots(b) => Said::Number(locations::slots_for_budget(b)),
             Call::Bounded(claim, length, per) => Said::Signed(IdSet::file_bounded_max_id(claim, length, per)),
             Call::From | Call::Merge => self.union(other, *call == Call::Merge, tally),
@@ -117,6 +118,32 @@ impl Side {
         let said: Marked = self.ids(p, room, k).map(meets);
         tally.marks.by_partition(ranges, &said);
         said.map_or_else(Said::Refused, Said::Marks)
+    }
+
+    /// The single calls, one id after the other.
+    fn many(&mut self, call: &Call, ids: &Ids, tally: &mut Tally) -> Said {
+        let said = match (call, &self.ranked) {
+            (Call::InsertAll(_), _) => self.insert_all(ids, tally),
+            _ if self.room.is_none() => Said::Refused(3),
+            (Call::GetAll(_), _) => Said::Marks(ids.ids().iter().map(|&id| self.get(id)).collect()),
+            (_, None) => Said::Refused(5),
+            (Call::RankAll(_), Some(ranked)) => Said::Ranks(ids.ids().iter().map(|&id| Some(ranked.rank(id))).collect()),
+            (_, Some(ranked)) => Said::Ranks(ids.ids().iter().map(|&id| ranked.rank_if_set(id)).collect()),
+        };
+        tally.many.said(ids, &said);
+        said
+    }
+
+    fn insert_all(&mut self, ids: &Ids, tally: &mut Tally) -> Said {
+        let (mut taken, mut fresh) = (0, 0);
+        for &id in ids.ids() {
+            match if self.room.is_some() { self.open_call(&Call::New(id), tally) } else { Said::Refused(3) } {
+                Said::Truth(new) => (taken, fresh) = (taken + 1, fresh + u64::from(new)),
+                Said::Refused(refusal) => return Said::Inserted { taken, fresh, refusal },
+                other => unreachable!("an insert is told {other}"),
+            }
+        }
+        Said::Inserted { taken, fresh, refusal: 0 }
     }
 
     /// The least member not below an id.

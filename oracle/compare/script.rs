@@ -1,5 +1,5 @@
 //! Sequences of calls on two sets: each call goes to the Rust's side for its answer, then to the library for comparison.
-use crate::call::{Call, Ranges, Record, Said, Sizes};
+use crate::call::{Call, Ids, Ranges, Record, Said, Sizes};
 use crate::rust::{BOUNDARIES, Side};
 use crate::tally::Tally;
 
@@ -299,6 +299,10 @@ impl<'a> Script<'a> {
         self.say(1, Call::Any(0, 0));
         self.say(1, Call::Iter(0));
         self.say(1, Call::Mark(Ranges::new(&[(0, 0), (1, 0)], [0; 3])));
+        let ids = Ids::new(&[0, 1, -1], [0; 2]);
+        for call in [Call::GetAll, Call::RankAll, Call::RankIfAll, Call::InsertAll] {
+            self.say(1, call(ids));
+        }
         self.say(1, Call::From);
     }
 
@@ -330,6 +334,7 @@ impl<'a> Script<'a> {
                 3..=5 => self.iterate(k, id),
                 6..=13 => self.unite(k),
                 14..=17 => self.mark(k),
+                18..=25 => self.many(k),
                 _ if self.sides[k].is_ranked() => self.ask(k, id),
                 _ => self.grow(k, id),
             }

@@ -1,4 +1,5 @@
 //! What has been compared: sequences, calls, and how often each kind of thing came up. A kind that never does is a failure of oracle/compare/run.
+use crate::many::Many;
 use crate::marks::Marks;
 use crate::unions::Unions;
 use std::fmt;
@@ -27,6 +28,7 @@ pub struct Tally {
     pub ranks_alone: u64,
     pub unions: Unions,
     pub marks: Marks,
+    pub many: Many,
 }
 
 impl Tally {
@@ -50,7 +52,7 @@ impl Tally {
             ("records with 65 left", left_65),
             ("records over an empty dense chunk", self.over_empty),
         ];
-        refusals.chain(others.map(|(name, n)| (name.to_string(), n))).chain(self.unions.kinds()).chain(self.marks.kinds()).collect()
+        refusals.chain(others.map(|(name, n)| (name.to_string(), n))).chain(self.unions.kinds()).chain(self.marks.kinds()).chain(self.many.kinds()).collect()
     }
 }
 

@@ -1,7 +1,7 @@
 //! Calls on memory that no call made: made sets with words poked into them, and pure noise. The check is compared with a second one, every call
 //! answers what document 01 lets it, a refusal and a reading call leave all as it was, and where memory follows the layout answer and memory after
 //! are the plain set's; where it doesn't, the answer falls under a row of docs/EXCEPTIONS.md, and every row comes up. Unions are made of two such memories;
-//! marks of a range list are what the range test answers.
+//! marks of a range list are what the range test answers, answers to a list of ids what the single calls say.
 //! Arguments: how many times the usual number of rounds, the seed, and for one round alone its sizes' place and its number.
 mod answer;
 mod bad;
@@ -9,8 +9,11 @@ mod call;
 #[path = "../calls.rs"]
 mod calls;
 mod choose;
+#[path = "../compare/lent.rs"]
+mod lent;
 #[path = "../compare/lists.rs"]
 mod lists;
+mod many;
 mod marks;
 #[path = "../memory.rs"]
 mod memory;
@@ -89,6 +92,7 @@ struct Run {
     rows: [u64; NAMES.len()],
     unions: unions::Tally,
     lists: marks::Tally,
+    many: many::Tally,
 }
 
 impl Run {
@@ -222,6 +226,7 @@ impl Run {
         let mut work = before.clone();
         self.plan(g, &before, &judged, &mut work);
         self.list(g, &before, &mut judged, &mut work, z);
+        self.many(g, &before, &mut judged, &mut work, z);
         for call in choose::every_call(g, &before, z) {
             self.one(g, call, &before, &mut judged, &mut work);
             if work != before {
@@ -297,6 +302,7 @@ impl Run {
         println!("noise: answers by the rows of docs/EXCEPTIONS.md: {}", rows.join(", "));
         println!("noise: unions {}", self.unions);
         println!("noise: range lists {}", self.lists);
+        println!("noise: lists of ids {}", self.many);
     }
 
     /// The ends of the table of sizes, which no small memory shows.
@@ -336,6 +342,7 @@ fn main() {
         assert!(run.refusals[1..].iter().all(|&n| n > 0), "a refusal never came up");
         assert!(run.unions.all_came_up(), "a kind of union never came up");
         assert!(run.lists.all_came_up(), "a kind of range list never came up");
+        assert!(run.many.all_came_up(), "a kind of list of ids never came up");
         assert!(run.goes_on.iter().all(|&n| n > 0), "a record that goes on never came up");
         assert!(run.rows.iter().all(|&n| n > 0), "a row of docs/EXCEPTIONS.md never came up");
     }
