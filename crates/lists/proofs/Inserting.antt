@@ -20,18 +20,8 @@ use Rattle.calls.specs.Insert.{insertBy}
 use Rattle.calls.proofs.Refusals.{insert-refused}
 use Rattle.contracts.specs.Runs.{Ran}
 use Rattle.contracts.specs.Does.{Does}
-use Rattle.insert_ways.specs.Ways.{Short}
-use Rattle.insert_ways.specs.declared.direct.Direct.{Direct}
-use Rattle.insert_ways.specs.declared.direct.Direct.the-variants.{Elsewhere}
 use Rattle.lists.specs.Inserts.{insertedOf, answerBy, afterBy, afterOf, InsertsAll}
 use Rattle.lists.proofs.Turns.{Turned, turned-none, turned-next, turned-refused, turned-all}
-
--- the short way left it alone, and then the single call
-pub then-one : (x u : Mem) (z : ℤ) (r : Direct) → Short x z r u → r ≡ Elsewhere → {a : Truth} {y : Mem} → Does u (insert z) (whether a) y → Does x (insert z) (whether a) y
-unfolding Short
-then-one x u z r s e {a} {y} d =
-    let f : Short x z Elsewhere u = subst (λ (k : Direct). Short x z k u) e s in
-    subst (λ (m : Mem). Does m (insert z) (whether a) y) f d
 
 -- an id that is passed on comes back as the machine reads it
 pub at-id : (x : Mem) (z : ℤ) → SFits w64 z → {a : Truth} {y : Mem} → Does x (insert (toZ w64 (ofZ w64 z))) (whether a) y → Does x (insert z) (whether a) y

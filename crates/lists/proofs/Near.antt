@@ -1,4 +1,4 @@
--- A chunk below D after the walk: what is read off its entry without a test is what the single calls read. Assumes nothing.
+-- A chunk after the walk: what is read of it without a test is what the single calls read. Assumes nothing.
 use mathlib.Core.Path.{_≡_, refl, sym, ap, ap₂, subst, _∙_}
 use mathlib.Core.Bool.{Bool, true, cond}
 use mathlib.Core.List.{[]}
@@ -6,11 +6,13 @@ use Prim.Native.Nat.{ℕ, _+_, _*_, _-_, _^_, _≤_, _<_}
 use native.Mathlib.Omega.{arith}
 use lib.IntN.{ℤ}
 use lib.ListN.{length, getD}
+use mir.Syntax.{w64}
+use mir.Val.{SFits}
 use borrow.Author.Tests.{lt-ltb}
 use Rattle.numbers.specs.Ids.{splitOf}
 use Rattle.numbers.specs.declared.Split.{Split}
 use Rattle.numbers.specs.declared.Split.the-variants.{At, Negative}
-use Rattle.numbers.proofs.Splits.{split-lies}
+use Rattle.numbers.proofs.Signs.{hop}
 use Rattle.document.specs.Sizes.{InRange}
 use Rattle.document.specs.declared.sizes.Sizes.{Sizes}
 use Rattle.document.specs.declared.answer.Amount.{Amount}
@@ -19,19 +21,21 @@ use Rattle.layout.specs.Mem.{Mem, mem}
 use Rattle.layout.specs.Sizes.{directAt, head}
 use Rattle.layout.specs.Places.{decoded}
 use Rattle.layout.specs.Entries.{wordAt, prefixAt, placeAt, wordOf, placeOf}
-use Rattle.layout.specs.Short.{spotOn}
+use Rattle.layout.specs.Short.{wordIn, spotOn}
 use Rattle.layout.specs.Seat.{directSeat, overflowSeat, seatIn}
 use Rattle.layout.specs.Part.{Within}
 use Rattle.layout.specs.Meaning.{ranked}
 use Rattle.layout.specs.Follows.{Owned}
 use Rattle.layout.specs.Tests.{Walked}
 use Rattle.layout.specs.declared.find.Spot.{Spot}
+use Rattle.layout.specs.declared.find.Word.{Word}
 use Rattle.layout.specs.declared.seat.Seat.the-variants as seat
 use Rattle.layout.specs.declared.place.Place.{Place}
 use Rattle.layout_laws.specs.Chunks.{firstRank}
 use Rattle.layout_laws.proofs.Entries.{walked-ordered, prefix-direct, word-of-direct}
 use Rattle.layout_laws.proofs.Short.{word-in-is, owned-of, spot-is}
 use Rattle.calls.specs.Reading.{spotBy, spotIf, hasAt, hasSplit, getBy}
+use Rattle.calls.proofs.Shifts.{chunk-small}
 use Rattle.calls.proofs.Spots.{within-spot}
 use Rattle.ranks.specs.Rank.{belowAt, plusBefore, rankSeat, rankSplit, rankBy}
 use Rattle.ranks.proofs.Seats.{seat-is}
@@ -84,8 +88,13 @@ module _ {x : Mem} {h : Sizes} (j : Judged x h) where
         let f : getD (x .table) (directAt c + 1) 0 ≡ firstRank x c = cc in
         ap (λ (k : Sizes). prefixAt k (x .table) c) (j .sizes) ∙ prefix-direct (head x) (x .table) c below-direct ∙ f
 
-    -- ---- an offset of it
+  -- ---- any chunk
 
+  module _ (c : ℕ) where
+    pub far-spot : (v : Word) (q : Spot) → v ≡ wordIn (x .table) c → q ≡ spotIf x v → q ≡ spotBy x (wordOf (head x) (x .table) c)
+    far-spot v q e f = f ∙ ap (spotIf x) (e ∙ word-in-is x w c)
+
+    -- an offset of it
     module _ (o : ℕ) (m : o < 2 ^ h .s) (q : Spot) (e : q ≡ spotBy x (wordOf (head x) (x .table) c)) where
       shift : h .s ≡ head x .s
       shift = ap (λ (k : Sizes). k .s) (j .sizes)
@@ -100,9 +109,10 @@ module _ {x : Mem} {h : Sizes} (j : Judged x h) where
           let z = judged-range in
           subst (HasBlock (length (x .pages)) (length (x .rows)) o) (sym e) (has-block x o (h .s) (wordOf (head x) (x .table) c) (z .s-low) (z .s-high) shift m)
 
-      pub seat-placed : (n : ℕ) (k r : Amount) → n ≡ prefixAt h (x .table) c → k ≡ belowAt (mem (x .pages) (x .rows) (x .blocks) []) o q → r ≡ plusBefore n k → r ≡ rankSeat x o (seatIn (x .table) c)
-      seat-placed n k r en ek er =
-          er ∙ ap₂ plusBefore (en ∙ entry-prefix) (ek ∙ below-same x o q ∙ ap (belowAt x o) e) ∙ sym (ap (rankSeat x o) (seat-is w c))
+      pub seat-placed : c < h .d → (n : ℕ) (k r : Amount) → n ≡ prefixAt h (x .table) c → k ≡ belowAt (mem (x .pages) (x .rows) (x .blocks) []) o q → r ≡ plusBefore n k
+          → r ≡ rankSeat x o (seatIn (x .table) c)
+      seat-placed l n k r en ek er =
+          er ∙ ap₂ plusBefore (en ∙ entry-prefix c l) (ek ∙ below-same x o q ∙ ap (belowAt x o) e) ∙ sym (ap (rankSeat x o) (seat-is w c))
 
   -- ---- the number of one id, by where it lies
 
@@ -117,8 +127,10 @@ module _ {x : Mem} {h : Sizes} (j : Judged x h) where
     rank-lies r = rank-split w r z ∙ ap (rankSplit x) lies
 
   module _ (z : ℤ) where
-    pub offset-small : (c o : ℕ) → At c o ≡ splitOf (h .s) z → o < 2 ^ h .s
-    offset-small c o e = split-lies (h .s) z c o e .within
+    pub lies-small : SFits w64 z → (c o : ℕ) → At c o ≡ splitOf (h .s) z → (c < 2 ^ 62) × (o < 2 ^ h .s)
+    lies-small f c o e =
+        let r = judged-range in
+        chunk-small (h .s) z f (splitOf (h .s) z) (sym (hop (splitOf (h .s)) z f)) c o (record { low = r .s-low; high = r .s-high }) (sym e)
 
     pub got-negative : Negative ≡ splitOf (h .s) z → 0 ≡ truthNumber (getBy x z)
     got-negative e = sym (ap truthNumber (got-lies z Negative e))

@@ -1,7 +1,9 @@
-// What one id of a list is answered, as a number. A chunk past the direct entries is left to the single call.
+// What one id of a list is answered, as a number.
 ghost use mathlib.Core.Path.{_≡_};
 ghost use mathlib.Core.Bool.{true};
 ghost use Prim.Native.Nat.{_^_, _<_};
+ghost use Rattle.numbers.specs.Ids.{splitOf};
+ghost use Rattle.numbers.specs.declared.Split.the-variants.{At};
 ghost use Rattle.layout.specs.Mem.{memOf};
 ghost use Rattle.layout.specs.Meaning.{ranked};
 ghost use Rattle.layout.specs.Seat.{seatIn};
@@ -12,7 +14,6 @@ use crate::number;
 use crate::spot;
 use document::answer::Amount;
 use document::sizes::Sizes;
-use idset::read;
 use layout::entry;
 use layout::part;
 use numbers::Split;
@@ -31,15 +32,8 @@ pub fn got(pages: &[u64], rows: &[u32], blocks: &[u32], table: &[u64], h: Sizes,
     let Split::At(c, o) = ids::split(id, h.s) else {
         return 0;
     };
-    if h.d <= c {
-        return number::of_truth(read::get(pages, rows, blocks, table, id));
-    }
-    number::of_truth(part::has(
-        pages,
-        rows,
-        spot::of_chunk(pages, rows, blocks, table, h, c),
-        o,
-    ))
+    let q = spot::of_chunk(pages, rows, blocks, table, h, c);
+    number::of_truth(part::has(pages, rows, q, o))
 }
 
 // ---- the rank of an id
@@ -54,7 +48,7 @@ fn placed(
     c: u64,
     o: u64,
 ) -> Amount
-    requires { ⌜ Judged (memOf pages rows blocks table) h × (c < h .d) × (o < 2 ^ h .s) ⌝ }
+    requires { ⌜ Judged (memOf pages rows blocks table) h × (c < 2 ^ 62) × (c < h .d) × (o < 2 ^ h .s) ⌝ }
     ensures { λ r. ⌜ (let x = memOf (pages .entry) (rows .entry) (blocks .entry) (table .entry) in
         r ≡ rankSeat x o (seatIn (x .table) c)) ⌝ }
 {
@@ -65,6 +59,27 @@ fn placed(
     )
 }
 
+// An id that is offset o of chunk c. A chunk past the direct entries is left to the single call.
+fn rank_in(
+    pages: &[u64],
+    rows: &[u32],
+    blocks: &[u32],
+    table: &[u64],
+    h: Sizes,
+    id: i64,
+    c: u64,
+    o: u64,
+) -> u64
+    requires { ⌜ (let x = memOf pages rows blocks table in
+        Judged x h × (ranked x ≡ true) × (At c o ≡ splitOf (h .s) id) × (c < 2 ^ 62)) ⌝ }
+    ensures { λ n. ⌜ n ≡ oneBy (memOf (pages .entry) (rows .entry) (blocks .entry) (table .entry)) rank-all id ⌝ }
+{
+    if h.d <= c {
+        return number::of_amount(rank::rank(pages, rows, blocks, table, id));
+    }
+    number::of_amount(placed(pages, rows, blocks, table, h, c, o))
+}
+
 pub fn rank_of(pages: &[u64], rows: &[u32], blocks: &[u32], table: &[u64], h: Sizes, id: i64) -> u64
     requires { ⌜ (let x = memOf pages rows blocks table in Judged x h × (ranked x ≡ true)) ⌝ }
     ensures { λ n. ⌜ n ≡ oneBy (memOf (pages .entry) (rows .entry) (blocks .entry) (table .entry)) rank-all id ⌝ }
@@ -72,19 +87,20 @@ pub fn rank_of(pages: &[u64], rows: &[u32], blocks: &[u32], table: &[u64], h: Si
     let Split::At(c, o) = ids::split(id, h.s) else {
         return 0;
     };
-    if h.d <= c {
-        return number::of_amount(rank::rank(pages, rows, blocks, table, id));
-    }
-    number::of_amount(placed(pages, rows, blocks, table, h, c, o))
+    rank_in(pages, rows, blocks, table, h, id, c, o)
 }
 
-// The rank of a member.
+// The rank of a member: is it there, and then where.
 pub fn rank_if(pages: &[u64], rows: &[u32], blocks: &[u32], table: &[u64], h: Sizes, id: i64) -> u64
     requires { ⌜ (let x = memOf pages rows blocks table in Judged x h × (ranked x ≡ true)) ⌝ }
     ensures { λ n. ⌜ n ≡ oneBy (memOf (pages .entry) (rows .entry) (blocks .entry) (table .entry)) rank-if-all id ⌝ }
 {
-    if got(pages, rows, blocks, table, h, id) == 0 {
+    let Split::At(c, o) = ids::split(id, h.s) else {
+        return NO_RANK;
+    };
+    let q = spot::of_chunk(pages, rows, blocks, table, h, c);
+    if number::of_truth(part::has(pages, rows, q, o)) == 0 {
         return NO_RANK;
     }
-    rank_of(pages, rows, blocks, table, h, id)
+    rank_in(pages, rows, blocks, table, h, id, c, o)
 }

@@ -6,7 +6,7 @@ ghost use Rattle.lists.specs.Inserts.{InsertsAll};
 use document::answer::Truth;
 use insert_ways::direct;
 use insert_ways::direct::Direct;
-use inserts::insert;
+use insert_ways::whole;
 
 // How many ids were taken, and how many of them were new; 0, or the number that refused the next one.
 #[repr(C)]
@@ -24,7 +24,7 @@ fn one(pages: &mut [u64], rows: &mut [u32], blocks: &mut [u32], table: &mut [u64
 {
     match direct::put(pages, rows, blocks, table, id) {
         Direct::Is(b) => Truth::Is(b),
-        Direct::Elsewhere => insert::set_if_new(pages, rows, blocks, table, id),
+        Direct::Elsewhere => whole::anywhere(pages, rows, blocks, table, id),
     }
 }
 

@@ -1,9 +1,15 @@
 -- Is it there, and then where. Assumes nothing.
 use mathlib.Core.Path.{_≡_, sym, _∙_}
+use Prim.Native.Nat.{_^_, _<_}
+use native.Mathlib.Omega.{arith}
+use Rattle.numbers.specs.Ids.{splitOf}
+use Rattle.numbers.specs.declared.Split.the-variants.{At}
 use Rattle.numbers.proofs.Signs.{hop}
 use Rattle.layout.specs.Mem.{Mem, memOf}
+use Rattle.calls.proofs.Shifts.{split-is}
 use Rattle.lists.specs.Lists.{get-all, rank-all, oneBy}
 use Rattle.lists.proofs.AfterWalk.{rank-if-none, rank-if-some}
+use Rattle.lists.proofs.Near.{judged-range, lies-small, spot-within, got-negative, got-here}
 use borrow.Author.Needs.{needs}
 use Rattle.lists.proofs.each.rank_if.Statement.{statement}
 use Rattle.lists.proofs.each.rank_if.Tie as tie
@@ -11,23 +17,68 @@ use Rattle.lists.proofs.each.rank_if.Tie as tie
 abbrev memory : tie.Start → Mem
 memory c = memOf (c .args .pages) (c .args .rows) (c .args .blocks) (c .args .table)
 
-there : (c : tie.After-got) → let a = c .before .before .before .before .before in c .got .result ≡ oneBy (memory a) get-all (a .args .id)
-there c = let a = c .before .before .before .before .before in c .got .ensures ∙ hop (oneBy (memory a) get-all) (a .args .id) (a .fits .id)
+-- where the id lies
+lies : (c : tie.After-known-told) → let a = c .before .before .before .before .before .before .before .before .args in At (c .before .c .given .0 .0) (c .before .c .given .0 .1 .0) ≡ splitOf (a .h .s) (a .id)
+lies c = let a = c .before .before .before .before .before .before .before .before in split-is _ (a .args .id) (a .fits .id) _ (c .before .before .before .split .ensures) _ (c .before .c .given .1)
 
-got-requires : tie.Need-got-requires
-got-requires c κs = search needs
+small : (c : tie.After-known-told) → (c .before .c .given .0 .0 < 2 ^ 62) × (c .before .c .given .0 .1 .0 < 2 ^ c .before .before .before .before .before .before .before .before .args .h .s)
+small c = let a = c .before .before .before .before .before .before .before .before in lies-small (a .pre .0) (a .args .id) (a .fits .id) _ _ (lies c)
+
+there : (c : tie.After-of-truth) → let a = c .before .before .before .before .before .before .before .before .before .before .before in c .of-truth .result ≡ oneBy (memory a) get-all (a .args .id)
+there c =
+    let a = c .before .before .before .before .before .before .before .before .before .before .before in
+    c .of-truth .ensures ∙ got-here (a .pre .0) (a .args .id) _ _ (lies (c .before .before .before)) _ _ (c .before .before .of-chunk .ensures) (c .before .has .ensures)
+
+split-requires : tie.Need-split-requires
+split-requires c κs = omega (arith, judged-range (c .before .before .before .before .pre .0) .s-high)
+
+enum-known-c : tie.Need-enum-known-c
+enum-known-c c = search needs
+
+enum-told : tie.Need-enum-told
+enum-told c = search needs
 
 returns : tie.Need-returns
-returns c = let a = c .before .before .before .before .before .before in rank-if-none (a .pre .0 .walks) (a .pre .1) (a .args .id) (sym (there (c .before)) ∙ c .if1 .taken)
+returns c =
+    let a = c .before .before .before .before .before .before .before in
+    rank-if-none (a .pre .0 .walks) (a .pre .1) (a .args .id)
+    (sym (got-negative (a .pre .0) (a .args .id) (split-is _ (a .args .id) (a .fits .id) _ (c .before .before .split .ensures) _ (c .enum-told .given .1))))
 
-rank-of-requires : tie.Need-rank-of-requires
-rank-of-requires c κs = search needs
+of-chunk-requires : tie.Need-of-chunk-requires
+of-chunk-requires c κs = (c .before .before .before .before .before .before .before .before .pre .0, small c .0)
+
+has-requires : tie.Need-has-requires
+has-requires c κs = let a = c .before .before .before .before .before .before .before .before .before in spot-within (a .pre .0) _ _ (small (c .before) .1) _ (c .of-chunk .ensures)
+
+of-truth-requires : tie.Need-of-truth-requires
+of-truth-requires c κs = search needs
 
 returns-2 : tie.Need-returns-2
-returns-2 c =
-    let a = c .before .before .before .before .before .before .before in
-    c .rank-of .ensures ∙ hop (oneBy (memory a) rank-all) (a .args .id) (a .fits .id)
+returns-2 c = let a = c .before .before .before .before .before .before .before .before .before .before .before .before in rank-if-none (a .pre .0 .walks) (a .pre .1) (a .args .id) (sym (there (c .before)) ∙ c .if1 .taken)
+
+rank-in-requires : tie.Need-rank-in-requires
+rank-in-requires c κs =
+    let a = c .before .before .before .before .before .before .before .before .before .before .before .before in
+    let k = c .before .before .before .before in
+    (a .pre .0, a .pre .1, lies k ∙ sym (hop (splitOf (a .args .h .s)) (a .args .id) (a .fits .id)), small k .0)
+
+returns-3 : tie.Need-returns-3
+returns-3 c =
+    let a = c .before .before .before .before .before .before .before .before .before .before .before .before .before in
+    c .rank-in .ensures ∙ hop (oneBy (memory a) rank-all) (a .args .id) (a .fits .id)
     ∙ rank-if-some (a .pre .0 .walks) (a .pre .1) (a .args .id) (λ e. c .before .if1 .left (there (c .before .before) ∙ e))
 
 pub rank-if-spec : {M : Type 1} → statement M
-rank-if-spec = tie.close (tie.spec got-requires returns rank-of-requires returns-2)
+rank-if-spec =
+    tie.close
+    (tie.spec
+    split-requires
+    enum-known-c
+    enum-told
+    returns
+    of-chunk-requires
+    has-requires
+    of-truth-requires
+    returns-2
+    rank-in-requires
+    returns-3)

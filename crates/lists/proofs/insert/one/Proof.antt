@@ -1,11 +1,10 @@
--- The short way's answer, or the single call's on memory that the short way left alone. Assumes nothing.
+-- The short way's answer, or the whole way's on memory that the short way left alone. Assumes nothing.
 use mathlib.Core.Path.{_∙_}
 use Rattle.numbers.proofs.Signs.{hop}
 use Rattle.layout.specs.Mem.{Mem, memOf}
 use Rattle.calls.specs.Insert.{insertBy}
-use Rattle.insert_ways.proofs.Ways.{short-insert}
 use Rattle.inserts.proofs.Promises.{sets-if-new}
-use Rattle.lists.proofs.Inserting.{then-one, at-id}
+use Rattle.insert_ways.proofs.Ways.{short-insert, then-insert}
 use borrow.Author.Needs.{needs}
 use Rattle.lists.proofs.insert.one.Statement.{statement}
 use Rattle.lists.proofs.insert.one.Tie as tie
@@ -22,8 +21,8 @@ enum-known-b c = search needs
 enum-told : tie.Need-enum-told
 enum-told c = search needs
 
-set-if-new-requires : tie.Need-set-if-new-requires
-set-if-new-requires c κs = search needs
+anywhere-requires : tie.Need-anywhere-requires
+anywhere-requires c κs = search needs
 
 same-length : tie.Need-same-length
 same-length c = search needs
@@ -38,7 +37,10 @@ same-length-4 : tie.Need-same-length-4
 same-length-4 c = search needs
 
 returns : tie.Need-returns
-returns c = let a = c .before .before .before .before .before .before .before .before .before .before .before .before .before .before in sets-if-new (memory a) (a .args .id) (a .fits .id) (short-insert (memory a) _ _ _ (c .before .before .before .before .before .put .ensures) _ (c .before .b .given .1) ∙ hop (insertBy (memory a)) (a .args .id) (a .fits .id))
+returns c =
+    let a = c .before .before .before .before .before .before .before .before .before .before .before .before .before .before in
+    sets-if-new (memory a) (a .args .id) (a .fits .id)
+    (short-insert (memory a) _ _ _ (c .before .before .before .before .before .put .ensures) _ (c .before .b .given .1) ∙ hop (insertBy (memory a)) (a .args .id) (a .fits .id))
 
 same-length-5 : tie.Need-same-length-5
 same-length-5 c = search needs
@@ -53,7 +55,10 @@ same-length-8 : tie.Need-same-length-8
 same-length-8 c = search needs
 
 returns-2 : tie.Need-returns-2
-returns-2 c = let a = c .before .before .before .before .before .before .before .before .before .before .before .before .before .before .before .before .before .before .before .before .before .before .before .before .before .before in at-id (memory a) (a .args .id) (a .fits .id) (then-one (memory a) _ _ _ (c .before .before .before .before .before .before .before .before .before .before .before .before .before .before .before .before .before .put .ensures) (c .before .before .before .before .before .before .before .before .before .before .before .before .before .enum-told .given .1) (c .before .before .before .before .before .before .before .before .set-if-new .ensures))
+returns-2 c =
+    let a = c .before .before .before .before .before .before .before .before .before .before .before .before .before .before .before .before .before .before .before .before .before .before .before .before in
+    sets-if-new (memory a) (a .args .id) (a .fits .id)
+    (then-insert (memory a) _ _ _ (c .before .before .before .before .before .before .before .before .before .before .before .before .before .before .before .put .ensures) (c .before .before .before .before .before .before .before .before .before .before .before .enum-told .given .1) _ _ (c .before .before .before .before .before .before .anywhere .ensures) ∙ hop (insertBy (memory a)) (a .args .id) (a .fits .id))
 
 pub one-spec : {M : Type 1} → statement M
 one-spec =
@@ -62,7 +67,7 @@ one-spec =
     put-requires
     enum-known-b
     enum-told
-    set-if-new-requires
+    anywhere-requires
     same-length
     same-length-2
     same-length-3
