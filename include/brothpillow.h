@@ -8,7 +8,8 @@
  *
  * Answers. Each comes back by value in a struct of its own. Its first field is the refusal: 0, or the number of the first refusal that applies, in the
  * order beside the call. Beside a refusal every other field is 0 (false), and nothing that was lent has changed. No field means two things: where there
- * may be none, a field of its own says whether there is one. Answers of up to 16 bytes come in registers.
+ * may be none, a field of its own says whether there is one. Answers of up to 16 bytes come in registers. Only bp_insert_all has no refusal of its own:
+ * it says how far it came and what ended it.
  *
  * Side by side. No call keeps a pointer, allocates, or has state of its own. Calls that only read (const slices) may run on the same memory at the same
  * time, in as many threads as you like. A call that writes needs its slices for itself until it returns. Two sets are two memories.
@@ -224,11 +225,11 @@ bp_done bp_rank_all(BP_IDS, uint64_t *answers, size_t answers_n, BP_SET);
 bp_done bp_rank_if_set_all(BP_IDS, uint64_t *answers, size_t answers_n, BP_SET);
 
 /* Inserts ids one after the other, as bp_set_if_new does, up to the first that is refused. taken: how many there were before it, and they stay in the set;
- * fresh: how many of those were new; refusal: 0, or the refusal of ids[taken]: 3, 4, 6, 7, 8. */
+ * fresh: how many of those were new; stop: 0, or the number that refused ids[taken] and so ended the call: 3, 4, 6, 7, 8. */
 typedef struct {
     uint64_t taken;
     uint64_t fresh;
-    uint64_t refusal;
+    uint64_t stop;
 } bp_inserted;
 bp_inserted bp_insert_all(BP_IDS, BP_SET_MUT);
 

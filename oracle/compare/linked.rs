@@ -103,7 +103,7 @@ fn ranks(answers: Vec<u64>) -> Said {
     Said::Ranks(answers.iter().map(|&rank| (rank != u64::MAX).then_some(rank)).collect())
 }
 
-fn inserted(Inserted { taken, fresh, refusal }: Inserted) -> Said {
+fn inserted(Inserted { taken, fresh, stop: refusal }: Inserted) -> Said {
     Said::Inserted { taken, fresh, refusal }
 }
 

@@ -83,19 +83,19 @@ impl Run {
     /// Memory is put back afterwards.
     fn insert_all(&mut self, ids: &[i64], before: &Memory, follows: bool, work: &mut Memory) {
         let mut singly = before.clone();
-        let mut wanted = Inserted { taken: 0, fresh: 0, refusal: 0 };
+        let mut wanted = Inserted { taken: 0, fresh: 0, stop: 0 };
         for &id in ids {
             let a = Answer::from(singly.bp_set_if_new(id));
             if a.kind == 2 {
-                wanted.refusal = a.value;
+                wanted.stop = a.value;
                 break;
             }
-            wanted = Inserted { taken: wanted.taken + 1, fresh: wanted.fresh + a.value, refusal: 0 };
+            wanted = Inserted { taken: wanted.taken + 1, fresh: wanted.fresh + a.value, stop: 0 };
         }
         let said = work.bp_insert_all(ids);
         self.ensure(said == wanted && *work == singly, format_args!("inserts of {ids:?} are told {said:?} and not {wanted:?}, or memory differs"), None, before);
         self.calls += 1;
-        let how = if wanted.refusal == 0 { 0 } else { 1 + usize::from(wanted.taken > 0) };
+        let how = if wanted.stop == 0 { 0 } else { 1 + usize::from(wanted.taken > 0) };
         self.many.inserts[usize::from(follows)][how] += 1;
         work.clone_from(before);
     }

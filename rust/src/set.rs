@@ -309,8 +309,8 @@ impl<M: MemoryMut> Set<M> {
 
     /// Inserts ids in turn, up to the first that is refused; those before it stay in the set.
     pub fn insert_all(&mut self, ids: &[i64]) -> Inserted {
-        let sys::Inserted { taken, fresh, refusal } = sys::insert_all(ids, self.memory.slices_mut());
-        Inserted { taken, fresh, refusal: Refusal::unless_zero(refusal).err() }
+        let sys::Inserted { taken, fresh, stop } = sys::insert_all(ids, self.memory.slices_mut());
+        Inserted { taken, fresh, refusal: Refusal::unless_zero(stop).err() }
     }
 
     /// Inserts the id into a chunk that is dense already and says whether it is new; refused with 9 where it is not.

@@ -4,8 +4,8 @@
 //! else that reads or writes a `&mut` one. No call keeps a pointer, and none asks anything of what memory holds: each
 //! ends and does nothing undefined whatever stands there. So every function here is safe.
 //!
-//! In every answer `refusal` is 0 or document 01's number, and beside a number every other field is 0, but those of
-//! [`Inserted`].
+//! In every answer `refusal` is 0 or document 01's number, and beside a number every other field is 0.
+//! [`Inserted`] has none: the call itself is never refused.
 #![allow(unsafe_code)]
 use crate::memory::{Slices, SlicesMut};
 use crate::sizes::Sizes;
@@ -114,8 +114,8 @@ pub struct Inserted {
     pub taken: u64,
     /// How many of them were new.
     pub fresh: u64,
-    /// 0, or the refusal of the next id.
-    pub refusal: u64,
+    /// 0, or the refusal of the next id, which ended the call.
+    pub stop: u64,
 }
 
 /// The three numbers of a plan, as `plan` answered them or as a caller made them up.

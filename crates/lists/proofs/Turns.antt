@@ -28,7 +28,7 @@ drop-none (suc i) (z ∷ zs) l = drop-none i zs (le-of-suc-le-suc l)
 
 -- after i ids that were taken, f of them new
 abbrev ahead : ℕ → ℕ → Inserted → Inserted
-ahead i f a = insertedOf (i + a .taken) (f + a .fresh) (a .refusal)
+ahead i f a = insertedOf (i + a .taken) (f + a .fresh) (a .stop)
 
 ahead-none : (t f n : ℕ) → insertedOf t f n ≡ ahead 0 0 (insertedOf t f n)
 ahead-none t f n =
@@ -37,7 +37,7 @@ ahead-none t f n =
     ap₂ (λ (v w : ℕ). insertedOf v w n) i g
 
 ahead-rest : (r : Truth) (a : Inserted) → thenRest r a ≡ ahead 0 0 (thenRest r a)
-ahead-rest (Is b) a = ahead-none (suc (a .taken)) (boolByte b + a .fresh) (a .refusal)
+ahead-rest (Is b) a = ahead-none (suc (a .taken)) (boolByte b + a .fresh) (a .stop)
 ahead-rest (Refused n) a = ahead-none 0 0 n
 
 module _ {A : Type 0} (answer : A → ℤ → Truth) (next : A → ℤ → A) where
@@ -79,7 +79,7 @@ module _ {A : Type 0} (answer : A → ℤ → Truth) (next : A → ℤ → A) wh
             rest =
                 here
                 ∙ ap₂ (λ (v : Truth) (y : A). ahead i f (thenRest v (inTurn answer next y (drop (suc i) zs)))) a (sym m)
-                ∙ ap₂ (λ (v w : ℕ). insertedOf v w (r .refusal)) j g
+                ∙ ap₂ (λ (v w : ℕ). insertedOf v w (r .stop)) j g
                 ∙ ap (λ (k : ℕ). ahead k (f + boolByte b) (inTurn answer next p′ (drop k zs))) (sym u);
             led = m ∙ ap₂ next (t .led) e ∙ sym (next-last q i zs l) ∙ ap (λ (k : ℕ). allNext next q (take k zs)) (sym u);
           }
@@ -105,8 +105,8 @@ module _ {A : Type 0} (answer : A → ℤ → Truth) (next : A → ℤ → A) wh
 
   -- every id is taken, or the next one is refused where those before it led
   pub data Ending (q : A) (zs : List ℤ) (a : Inserted) : Type 0 where
-    whole : a .taken ≡ length zs → a .refusal ≡ 0 → Ending q zs a
-    stopped : a .taken < length zs → answer (allNext next q (take (a .taken) zs)) (getD zs (a .taken) (pos 0)) ≡ Refused (a .refusal) → Ending q zs a
+    whole : a .taken ≡ length zs → a .stop ≡ 0 → Ending q zs a
+    stopped : a .taken < length zs → answer (allNext next q (take (a .taken) zs)) (getD zs (a .taken) (pos 0)) ≡ Refused (a .stop) → Ending q zs a
 
   ending-next : (q : A) (z : ℤ) (zs : List ℤ) (a : Inserted) (r : Truth) → answer q z ≡ r → Ending (next q z) zs a → Ending q (z ∷ zs) (thenRest r a)
   unfolding allNext

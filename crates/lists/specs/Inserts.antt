@@ -19,11 +19,11 @@ use Rattle.lists.specs.declared.insert.Inserted.{Inserted}
 
 -- how many ids were taken, how many of them were new, and what refused the next one: 0 where there is none
 abbrev pub insertedOf : ℕ → ℕ → ℕ → Inserted
-insertedOf t f n = record { taken = t; fresh = f; refusal = n }
+insertedOf t f n = record { taken = t; fresh = f; stop = n }
 
 -- an id's answer, before what the ids behind it come to; a refusal is the last
 abbrev pub thenRest : Truth → Inserted → Inserted
-thenRest (Is b) a = insertedOf (suc (a .taken)) (boolByte b + a .fresh) (a .refusal)
+thenRest (Is b) a = insertedOf (suc (a .taken)) (boolByte b + a .fresh) (a .stop)
 thenRest (Refused n) a = insertedOf 0 0 n
 
 -- ids in turn, each answered where the ids before it led

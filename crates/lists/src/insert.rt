@@ -13,7 +13,7 @@ use insert_ways::whole;
 pub struct Inserted {
     pub taken: u64,
     pub fresh: u64,
-    pub refusal: u64,
+    pub stop: u64,
 }
 
 // One id, as `set_if_new` does it. The short way stands here too, so that it is compiled into the loop.
@@ -52,7 +52,7 @@ pub fn insert_all(
                 return Inserted {
                     taken: taken as u64,
                     fresh,
-                    refusal: n,
+                    stop: n,
                 };
             }
         }
@@ -60,6 +60,6 @@ pub fn insert_all(
     Inserted {
         taken: taken as u64,
         fresh,
-        refusal: 0,
+        stop: 0,
     }
 }

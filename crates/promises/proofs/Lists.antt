@@ -141,7 +141,7 @@ module _ (x : Mem) (ids : List ℤ) where
     refused-stays-inserts e = d .left ∙ ap (λ (n : ℕ). allNext afterBy x (take n ids)) e
 
     -- 0 says that every id was taken
-    pub all-taken : a .refusal ≡ 0 → a .taken ≡ length ids
+    pub all-taken : a .stop ≡ 0 → a .taken ≡ length ids
     all-taken e = go ends
       where
         go : Ending answerBy afterBy x ids a → a .taken ≡ length ids
@@ -149,10 +149,10 @@ module _ (x : Mem) (ids : List ℤ) where
         go (stopped l s) = absurd (never-zero (allNext afterBy x (take (a .taken) ids)) (getD ids (a .taken) (pos 0)) (s ∙ ap truth.Refused e))
 
     -- any other number, that it refused the next one, where the ids before it led
-    pub next-refused : (a .refusal ≡ 0 → ⊥) → (a .taken < length ids) × (answerBy y (getD ids (a .taken) (pos 0)) ≡ truth.Refused (a .refusal))
+    pub next-refused : (a .stop ≡ 0 → ⊥) → (a .taken < length ids) × (answerBy y (getD ids (a .taken) (pos 0)) ≡ truth.Refused (a .stop))
     next-refused n = go ends
       where
-        go : Ending answerBy afterBy x ids a → (a .taken < length ids) × (answerBy y (getD ids (a .taken) (pos 0)) ≡ truth.Refused (a .refusal))
+        go : Ending answerBy afterBy x ids a → (a .taken < length ids) × (answerBy y (getD ids (a .taken) (pos 0)) ≡ truth.Refused (a .stop))
         go (whole t e) = absurd (n e)
         go (stopped l s) = (l, ap (λ (m : Mem). answerBy m (getD ids (a .taken) (pos 0))) (d .left) ∙ s)
 
@@ -164,17 +164,17 @@ module _ (x : Mem) (ids : List ℤ) where
     fresh-of-taken = subst (λ (b : Inserted). b .fresh ≤ b .taken) (sym (d .said)) (fresh-few answerBy afterBy x ids)
 
 -- memory that follows the layout is never the cause of a 3
-not-three-next : (r : Truth) (b : Inserted) → (Refuses (whether r) 3 → ⊥) → (b .refusal ≡ 3 → ⊥) → thenRest r b .refusal ≡ 3 → ⊥
+not-three-next : (r : Truth) (b : Inserted) → (Refuses (whether r) 3 → ⊥) → (b .stop ≡ 3 → ⊥) → thenRest r b .stop ≡ 3 → ⊥
 not-three-next (truth.Is v) b p q e = q e
 not-three-next (truth.Refused n) b p q e = p e
 
-not-three : (q : State) (zs : List ℤ) → inTurn newAnswer afterOf q zs .refusal ≡ 3 → ⊥
+not-three : (q : State) (zs : List ℤ) → inTurn newAnswer afterOf q zs .stop ≡ 3 → ⊥
 unfolding inTurn
 not-three q [] e = omega arith
 not-three q (z ∷ zs) e = not-three-next (newAnswer q z) (inTurn newAnswer afterOf (afterOf q z) zs) (answer-not-three q (insert z)) (not-three (afterOf q z) zs) e
 
-pub never-three-inserts : (x : Mem) → Follows x → (ids : List ℤ) (a : Inserted) (y : Mem) → InsertsAll x ids a y → a .refusal ≡ 3 → ⊥
-never-three-inserts x w ids a y d e = not-three (stateOf x) ids (ap (λ (b : Inserted). b .refusal) (sym (d .says w .said)) ∙ e)
+pub never-three-inserts : (x : Mem) → Follows x → (ids : List ℤ) (a : Inserted) (y : Mem) → InsertsAll x ids a y → a .stop ≡ 3 → ⊥
+never-three-inserts x w ids a y d e = not-three (stateOf x) ids (ap (λ (b : Inserted). b .stop) (sym (d .says w .said)) ∙ e)
 
 -- ---- there is an answer for every list of i64
 

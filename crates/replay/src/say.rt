@@ -152,8 +152,8 @@ pub fn ranks(a: DoneAnswer, ranks: &[u64], n: usize) {
 pub fn inserted(a: Inserted) {
     number(b"", a.taken);
     number(b" ", a.fresh);
-    if a.refusal != 0 {
-        number(b" refused ", a.refusal);
+    if a.stop != 0 {
+        number(b" refused ", a.stop);
     }
     text(b"\n");
 }
