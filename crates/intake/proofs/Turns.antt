@@ -1,7 +1,7 @@
 -- Laws of ids put in turn: memory that follows the layout does as document 01's set, and that set has the ids before the first fault. Assumes nothing.
-use mathlib.Core.Path.{_≡_, refl, sym, _∙_, ap, subst}
+use mathlib.Core.Path.{_≡_, refl, _∙_, ap, subst}
 use mathlib.Core.Bool.{Bool, true, false, _||_}
-use mathlib.Core.List.{List, [], _∷_, _++_}
+use mathlib.Core.List.{List, [], _∷_}
 use Prim.Native.Nat.{ℕ}
 use lib.IntN.{ℤ}
 use mir.Syntax.{w64}
@@ -16,12 +16,11 @@ use Rattle.layout.specs.Mem.{Mem}
 use Rattle.layout.specs.Meaning.{stateOf}
 use Rattle.layout.specs.Follows.{Follows}
 use Rattle.contracts.proofs.Steps.{does}
-use Rattle.program.specs.Turns.{Put, Run, run, orRest, inTurn, runAll}
+use Rattle.program.specs.Turns.{orRest, inTurn, runAll}
 use Rattle.program.specs.declared.Ended.{Ended}
-use Rattle.program.specs.declared.Ended.the-variants as ended
 use Rattle.program.proofs.Same.{run-same, run-keeps}
 use Rattle.intake.specs.Puts.{putBy, putIn}
-use Rattle.intake.specs.Turned.{among, Decides, Turned}
+use Rattle.intake.specs.Turned.{among, Turned}
 
 -- ---- memory and set
 

@@ -1,6 +1,6 @@
 -- A law for each way through the functions that put the input into a set. Assumes nothing.
 use mathlib.Core.Path.{_≡_, refl, sym, _∙_, ap, subst}
-use mathlib.Core.List.{List, [], _∷_, _++_}
+use mathlib.Core.List.{List}
 use Prim.Native.Nat.{ℕ, _+_, _≤_, _<_}
 use native.Mathlib.Numerals.{add-one}
 use lib.IntN.{ℤ}
@@ -17,19 +17,19 @@ use Rattle.layout.specs.SetUp.{did, setUpBy}
 use Rattle.calls.specs.Insert.{insertBy}
 use Rattle.contracts.specs.Runs.{Ran, ran, byDone}
 use Rattle.contracts.specs.Does.{Does}
-use Rattle.program.specs.Turns.{Run, run}
+use Rattle.program.specs.Turns.{run}
 use Rattle.program.specs.Reader.{byteOn, noByte, goOn, settled, Fed, fed, perform, step, feed, finished}
 use Rattle.program.specs.declared.Act.{Act}
 use Rattle.program.specs.declared.Act.the-variants.{Insert}
 use Rattle.program.specs.declared.Ended.{Ended}
 use Rattle.program.specs.declared.Input.{Input}
 use Rattle.program.proofs.Parts.{feed-snoc}
-use Rattle.intake.specs.Puts.{sizes, putBy, startOf, begun}
+use Rattle.intake.specs.Puts.{sizes, putBy, startOf, started}
 
 -- ---- set-up
 
-pub begin-way : {r : Input} {o : Outcome} (x y : Mem) → r ≡ startOf o → did o y ≡ setUpBy sizes x → fed r y ≡ begun (setUpBy sizes x)
-begin-way x y p e = ap (λ (i : Input). fed i y) p ∙ ap begun e
+pub begin-way : {r : Input} {o : Outcome} (x y : Mem) → r ≡ startOf o → did o y ≡ setUpBy sizes x → fed r y ≡ started (setUpBy sizes x)
+begin-way x y p e = ap (λ (i : Input). fed i y) p ∙ ap started e
 
 -- ---- an insert
 

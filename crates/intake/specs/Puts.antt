@@ -30,5 +30,5 @@ abbrev pub startOf : Outcome → Input
 startOf outcome.Done = begin
 startOf (outcome.Refused c) = Refused c
 
-abbrev pub begun : Did → Fed Mem
-begun d = fed (startOf (d .answer)) (d .after)
+abbrev pub started : Did → Fed Mem
+started d = fed (startOf (d .answer)) (d .after)

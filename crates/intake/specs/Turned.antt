@@ -17,9 +17,9 @@ among [] n = false
 among (z ∷ zs) n = isId z n || among zs n
 
 -- no id is left, and it ends as e; or the first that is left is refused
-abbrev pub Decides : Ended → Run State → List ℤ → Type 0
-Decides e r [] = r .ended ≡ e
-Decides e r (z ∷ zs) = (c : ℕ) × (newAnswer (r .left) z ≡ truth.Refused c) × (r .ended ≡ ended.Refused c)
+abbrev pub EndsBy : Ended → Run State → List ℤ → Type 0
+EndsBy e r [] = r .ended ≡ e
+EndsBy e r (z ∷ zs) = (c : ℕ) × (newAnswer (r .left) z ≡ truth.Refused c) × (r .ended ≡ ended.Refused c)
 
 -- of the ids zs, put in turn into the set q, some are inserted, and the rest decides
 pub record Turned (q : State) (zs : List ℤ) (e : Ended) (r : Run State) : Type 0 where
@@ -27,4 +27,4 @@ pub record Turned (q : State) (zs : List ℤ) (e : Ended) (r : Run State) : Type
   pub rest : List ℤ
   pub split : before ++ rest ≡ zs
   pub members : (n : ℕ) → r .left .members n ≡ (q .members n || among before n)
-  pub decides : Decides e r rest
+  pub decides : EndsBy e r rest

@@ -4,7 +4,7 @@ ghost use Rattle.layout.specs.Mem.{memOf};
 ghost use Rattle.layout.specs.SetUp.{setUpBy};
 ghost use Rattle.program.specs.Turns.{run};
 ghost use Rattle.program.specs.Reader.{fed, perform, feed, finished};
-ghost use Rattle.intake.specs.Puts.{sizes, putBy, begun};
+ghost use Rattle.intake.specs.Puts.{sizes, putBy, started};
 use document::answer::Outcome;
 use idset::setup;
 use inserts::insert;
@@ -16,7 +16,7 @@ use program::Input;
 pub fn begin(pages: &mut [u64], rows: &mut [u32], blocks: &mut [u32], table: &mut [u64]) -> Input
     ensures { λ r. ⌜ (let x = memOf (pages .entry) (rows .entry) (blocks .entry) (table .entry) in
         let y = memOf (pages .exit) (rows .exit) (blocks .exit) (table .exit) in
-        fed r y ≡ begun (setUpBy sizes x)) ⌝ }
+        fed r y ≡ started (setUpBy sizes x)) ⌝ }
 {
     match setup::set_up(12, 64, 16, 16, 32, 16, pages, rows, blocks, table) {
         Outcome::Done => program::start(),

@@ -7,7 +7,7 @@ use Prim.Native.Nat.{ℕ}
 use lib.IntN.{ℤ}
 use Rattle.document.specs.State.{State, empty}
 use Rattle.document.specs.Sizes.{InRange}
-use Rattle.document.specs.Calls.{rank-up, that}
+use Rattle.document.specs.Calls.{rank-up}
 use Rattle.document.specs.Answers.{inMode, rankUpAnswer}
 use Rattle.document.specs.Plan.{PlansFor}
 use Rattle.document.specs.declared.answer.Outcome.{Outcome}
@@ -20,15 +20,14 @@ use Rattle.contracts.proofs.Steps.{does}
 use Rattle.contracts.proofs.SetUps.{sets-up}
 use Rattle.cuts.specs.Plan.{planBy}
 use Rattle.cuts.proofs.Plans.{plans-by}
-use Rattle.program.specs.Turns.{Run, run, runAll}
-use Rattle.program.specs.Reader.{joined, fed, feedParts, finished}
+use Rattle.program.specs.Turns.{Run, runAll}
+use Rattle.program.specs.Reader.{together, fed, feedParts, finished}
 use Rattle.program.specs.declared.Ended.{Ended}
 use Rattle.program.specs.declared.Ended.the-variants as ended
-use Rattle.program.specs.declared.Input.{Input}
 use Rattle.program.proofs.Inputs.{reads-parts}
-use Rattle.intake.specs.Puts.{sizes, putBy, putIn, startOf, begun}
+use Rattle.intake.specs.Puts.{sizes, putBy, startOf, started}
 use Rattle.intake.proofs.Turns.{Stands, outcome-is, input-stands, stays-open}
-use Rattle.planner.specs.Tells.{rankedSaid, planSaid, endSaid, runSaid, programTold, SaysPlan, Says, programRun, ProgramSays}
+use Rattle.planner.specs.Tells.{rankedSaid, planSaid, endSaid, runSaid, programTold, SaysPlan, EndSays, programRun, ProgramSays}
 
 -- ---- planning comes last
 
@@ -58,7 +57,7 @@ module _ (x : Mem) (q : State) (w : Stands x q) (o : q .mode ≡ false) (bs : Li
         said = refl;
       })
 
-  end-says : (e : Ended) → Says e q bs (endSaid e x bs .says) (endSaid e x bs .bounds)
+  end-says : (e : Ended) → EndSays e q bs (endSaid e x bs .says) (endSaid e x bs .bounds)
   end-says (ended.Whole s) = plan-says s
   end-says (ended.Bad n) = (refl, refl)
   end-says (ended.Refused c) = (refl, refl)
@@ -82,18 +81,18 @@ module _ (x : Mem) (room : RoomIn sizes x) (parts : List (List ℕ)) (bs : List 
   made : (setUpBy sizes x .answer ≡ outcome.Done) × Stands (setUpBy sizes x .after) (empty sizes)
   made = let m = sets-up sizes x refl .made in-range room in (m .0, (m .1, m .2))
 
-  by-lines : finished putBy (feedParts putBy (begun (setUpBy sizes x)) parts) ≡ runAll putBy (setUpBy sizes x .after) (joined parts)
+  by-lines : finished putBy (feedParts putBy (started (setUpBy sizes x)) parts) ≡ runAll putBy (setUpBy sizes x .after) (together parts)
   by-lines =
       ap (λ (a : Outcome). finished putBy (feedParts putBy (fed (startOf a) (setUpBy sizes x .after)) parts)) (made .0)
       ∙ reads-parts putBy (setUpBy sizes x .after) parts
 
-  pub program-says : ProgramSays (joined parts) bs (programTold x parts bs .says) (programTold x parts bs .bounds)
+  pub program-says : ProgramSays (together parts) bs (programTold x parts bs .says) (programTold x parts bs .bounds)
   program-says =
-      let v = programRun (joined parts) in
-      let w = runAll putBy (setUpBy sizes x .after) (joined parts) in
-      let same = input-stands (setUpBy sizes x .after) (empty sizes) (joined parts) (made .1) in
-      let told = end-says (w .left) (v .left) (same .1) (stays-open (empty sizes) (joined parts) refl) bs (w .ended) in
+      let v = programRun (together parts) in
+      let w = runAll putBy (setUpBy sizes x .after) (together parts) in
+      let same = input-stands (setUpBy sizes x .after) (empty sizes) (together parts) (made .1) in
+      let spoken = end-says (w .left) (v .left) (same .1) (stays-open (empty sizes) (together parts) refl) bs (w .ended) in
       subst
-      (λ (r : Run Mem). Says (v .ended) (v .left) bs (runSaid r bs .says) (runSaid r bs .bounds))
+      (λ (r : Run Mem). EndSays (v .ended) (v .left) bs (runSaid r bs .says) (runSaid r bs .bounds))
       (sym by-lines)
-      (subst (λ (e : Ended). Says e (v .left) bs (runSaid w bs .says) (runSaid w bs .bounds)) (same .0) told)
+      (subst (λ (e : Ended). EndSays e (v .left) bs (runSaid w bs .says) (runSaid w bs .bounds)) (same .0) spoken)

@@ -25,7 +25,7 @@ use Rattle.program.specs.declared.Ended.{Ended}
 use Rattle.program.specs.declared.Ended.the-variants as ended
 use Rattle.program.specs.declared.Said.{Said}
 use Rattle.program.specs.declared.Said.the-variants as said
-use Rattle.intake.specs.Puts.{sizes, putBy, putIn, begun}
+use Rattle.intake.specs.Puts.{sizes, putBy, putIn, started}
 use Rattle.texts.specs.Text.{badText, refusedText, setText}
 
 -- places for boundaries
@@ -40,36 +40,36 @@ sayPlan (planning.Refused c) = said.Refused c
 -- ---- on any memory
 
 -- what is said, memory and boundaries after it
-pub record Told : Type 0 where
+pub record Spoken : Type 0 where
   pub says : Said
   pub left : Mem
   pub bounds : List ℤ
 
-abbrev pub told : Said → Mem → List ℤ → Told
-told r y cs = record { says = r; left = y; bounds = cs }
+abbrev pub spoken : Said → Mem → List ℤ → Spoken
+spoken r y cs = record { says = r; left = y; bounds = cs }
 
-abbrev pub cutSaid : Mem → Cut → Told
-cutSaid y k = told (sayPlan (k .answer)) y (k .bounds)
+abbrev pub cutSaid : Mem → Cut → Spoken
+cutSaid y k = spoken (sayPlan (k .answer)) y (k .bounds)
 
 -- planning for S after ranking, unless that is refused
-abbrev pub rankedSaid : Outcome → Mem → ℕ → List ℤ → Told
+abbrev pub rankedSaid : Outcome → Mem → ℕ → List ℤ → Spoken
 rankedSaid outcome.Done y s bs = cutSaid y (planBy y s bs)
-rankedSaid (outcome.Refused c) y s bs = told (said.Refused c) y bs
+rankedSaid (outcome.Refused c) y s bs = spoken (said.Refused c) y bs
 
-abbrev pub planSaid : Did → ℕ → List ℤ → Told
+abbrev pub planSaid : Did → ℕ → List ℤ → Spoken
 planSaid d s bs = rankedSaid (d .answer) (d .after) s bs
 
-abbrev pub endSaid : Ended → Mem → List ℤ → Told
+abbrev pub endSaid : Ended → Mem → List ℤ → Spoken
 endSaid (ended.Whole s) x bs = planSaid (rankUpBy x) s bs
-endSaid (ended.Bad n) x bs = told (said.Bad n) x bs
-endSaid (ended.Refused c) x bs = told (said.Refused c) x bs
+endSaid (ended.Bad n) x bs = spoken (said.Bad n) x bs
+endSaid (ended.Refused c) x bs = spoken (said.Refused c) x bs
 
-abbrev pub runSaid : Run Mem → List ℤ → Told
+abbrev pub runSaid : Run Mem → List ℤ → Spoken
 runSaid e bs = endSaid (e .ended) (e .left) bs
 
 -- the program on memory x: set-up, the parts of the input in turn, and the end
-abbrev pub programTold : Mem → List (List ℕ) → List ℤ → Told
-programTold x parts bs = runSaid (finished putBy (feedParts putBy (begun (setUpBy sizes x)) parts)) bs
+abbrev pub programTold : Mem → List (List ℕ) → List ℤ → Spoken
+programTold x parts bs = runSaid (finished putBy (feedParts putBy (started (setUpBy sizes x)) parts)) bs
 
 -- ---- in document 01's words
 
@@ -80,10 +80,10 @@ pub record SaysPlan (q : State) (S : ℕ) (bs : List ℤ) (r : Said) (cs : List 
   pub said : r ≡ sayPlan answer
 
 -- planning comes last, and only where no fault was met before
-abbrev pub Says : Ended → State → List ℤ → Said → List ℤ → Type 0
-Says (ended.Whole s) q bs r cs = SaysPlan q s bs r cs
-Says (ended.Bad n) q bs r cs = (r ≡ said.Bad n) × (cs ≡ bs)
-Says (ended.Refused c) q bs r cs = (r ≡ said.Refused c) × (cs ≡ bs)
+abbrev pub EndSays : Ended → State → List ℤ → Said → List ℤ → Type 0
+EndSays (ended.Whole s) q bs r cs = SaysPlan q s bs r cs
+EndSays (ended.Bad n) q bs r cs = (r ≡ said.Bad n) × (cs ≡ bs)
+EndSays (ended.Refused c) q bs r cs = (r ≡ said.Refused c) × (cs ≡ bs)
 
 -- the input goes, in turn, into an empty set of the program's sizes
 abbrev pub programRun : List ℕ → Run State
@@ -91,7 +91,7 @@ programRun input = runAll putIn (empty sizes) input
 
 -- the program on all of its input
 abbrev pub ProgramSays : List ℕ → List ℤ → Said → List ℤ → Type 0
-ProgramSays input bs r cs = Says (programRun input .ended) (programRun input .left) bs r cs
+ProgramSays input bs r cs = EndSays (programRun input .ended) (programRun input .left) bs r cs
 
 -- ---- the text for an input
 
@@ -99,11 +99,11 @@ ProgramSays input bs r cs = Says (programRun input .ended) (programRun input .le
 abbrev pub plannedText : State → ℕ → List ℕ
 plannedText q S = cond (ltb room (parts (total (q .members)) S - 1)) (refusedText no-room) (setText (q .members) S)
 
-abbrev pub endText : Ended → State → List ℕ
-endText (ended.Whole s) q = plannedText q s
-endText (ended.Bad n) q = badText n
-endText (ended.Refused c) q = refusedText c
+abbrev pub endedText : Ended → State → List ℕ
+endedText (ended.Whole s) q = plannedText q s
+endedText (ended.Bad n) q = badText n
+endedText (ended.Refused c) q = refusedText c
 
 -- what the program has to write for all of its input
 abbrev pub programText : List ℕ → List ℕ
-programText input = endText (programRun input .ended) (programRun input .left)
+programText input = endedText (programRun input .ended) (programRun input .left)

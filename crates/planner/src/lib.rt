@@ -4,7 +4,7 @@ ghost use Rattle.layout.specs.Mem.{memOf};
 ghost use Rattle.ranks.specs.Form.{rankUpBy};
 ghost use Rattle.program.specs.Reader.{fed, finished};
 ghost use Rattle.intake.specs.Puts.{putBy};
-ghost use Rattle.planner.specs.Tells.{sayPlan, told, planSaid, runSaid};
+ghost use Rattle.planner.specs.Tells.{sayPlan, spoken, planSaid, runSaid};
 use cuts::planning;
 use document::answer::Outcome;
 use document::plan::Planning;
@@ -35,7 +35,7 @@ fn plan(
 ) -> Said
     ensures { λ r. ⌜ (let x = memOf (pages .entry) (rows .entry) (blocks .entry) (table .entry) in
         let y = memOf (pages .entry) (rows .entry) (blocks .exit) (table .exit) in
-        told r y (now (bounds .exit)) ≡ planSaid (rankUpBy x) s (now (bounds .entry))) ⌝ }
+        spoken r y (now (bounds .exit)) ≡ planSaid (rankUpBy x) s (now (bounds .entry))) ⌝ }
 {
     if let Outcome::Refused(c) = form::into_ranked(pages, rows, blocks, table) {
         return Said::Refused(c);
@@ -54,7 +54,7 @@ pub fn tell(
 ) -> Said
     ensures { λ r. ⌜ (let x = memOf (pages .entry) (rows .entry) (blocks .entry) (table .entry) in
         let y = memOf (pages .exit) (rows .exit) (blocks .exit) (table .exit) in
-        told r y (now (bounds .exit)) ≡ runSaid (finished putBy (fed i x)) (now (bounds .entry))) ⌝ }
+        spoken r y (now (bounds .exit)) ≡ runSaid (finished putBy (fed i x)) (now (bounds .entry))) ⌝ }
 {
     match input::end(pages, rows, blocks, table, i) {
         Ended::Whole(s) => plan(pages, rows, blocks, table, s, bounds),

@@ -1,10 +1,9 @@
 -- Inputs of document 01 and at its edges, and what they say. Assumes nothing.
 use mathlib.Core.Path.{_≡_, refl}
-use mathlib.Core.List.{List, [], _∷_}
-use Prim.Native.Nat.{ℕ}
-use lib.IntN.{ℤ, pos, negsuc}
-use Rattle.lines.specs.Line.{isDigit, allDigits, valueFrom, sizeLine, positive, negative, idLine}
-use Rattle.program.specs.Input.{linesOf, Read, whole, bad, idsFrom, readLines, readPlan}
+use mathlib.Core.List.{[], _∷_}
+use lib.IntN.{pos, negsuc}
+use Rattle.lines.specs.Line.{allDigits, valueFrom, sizeLine, positive, negative, idLine}
+use Rattle.program.specs.Input.{linesOf, whole, bad, idsFrom, readPlan}
 
 -- lines 2, 5, 9, 7, 9, -3, 0
 pub example : readPlan (50 ∷ 10 ∷ 53 ∷ 10 ∷ 57 ∷ 10 ∷ 55 ∷ 10 ∷ 57 ∷ 10 ∷ 45 ∷ 51 ∷ 10 ∷ 48 ∷ 10 ∷ []) ≡ whole 2 (pos 5 ∷ pos 9 ∷ pos 7 ∷ pos 9 ∷ negsuc 2 ∷ pos 0 ∷ [])

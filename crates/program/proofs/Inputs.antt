@@ -6,7 +6,7 @@ use Prim.Native.Nat.{ℕ}
 use lib.Dec.{eqb}
 use lib.IntN.{ℤ}
 use Rattle.lines.specs.Line.{sizeLine, idLine}
-use Rattle.lines.specs.Reader.{next, readFrom, lineOf, emptyIn, sizeIn, idIn}
+use Rattle.lines.specs.Reader.{next, readFrom, lineOf, sizeIn, idIn}
 use Rattle.lines.specs.declared.Id.{Id}
 use Rattle.lines.specs.declared.Id.the-variants as id
 use Rattle.lines.specs.declared.Line.{Line}
@@ -17,13 +17,10 @@ use Rattle.lines.proofs.Lines.{line-snoc, size-says, id-says, empty-says}
 use Rattle.document.specs.declared.answer.Outcome.{Outcome}
 use Rattle.document.specs.declared.answer.Outcome.the-variants as outcome
 use Rattle.program.specs.Input.{begun, linesOf, Read, whole, bad, following, withId, afterId, idsFrom, afterSize, readLines, readPlan}
-use Rattle.program.specs.Turns.{Put, Run, run, orRest, inTurn, runRead, runAll}
-use Rattle.program.specs.Reader.{begin, sizeRead, idRead, byteOn, noByte, goOn, settled, Fed, fed, joined, perform, step, feed, feedParts, finished}
-use Rattle.program.specs.declared.Act.{Act}
-use Rattle.program.specs.declared.Act.the-variants.{Go, Insert}
-use Rattle.program.specs.declared.Ended.{Ended}
+use Rattle.program.specs.Turns.{Put, run, orRest, inTurn, runRead, runAll}
+use Rattle.program.specs.Reader.{begin, sizeRead, idRead, goOn, settled, fed, together, perform, feed, feedParts, finished}
+use Rattle.program.specs.declared.Act.the-variants.{Go}
 use Rattle.program.specs.declared.Ended.the-variants as ended
-use Rattle.program.specs.declared.Input.{Input}
 use Rattle.program.specs.declared.Input.the-variants.{First, Next, Bad, Refused}
 use Rattle.program.proofs.Parts.{parts}
 
@@ -161,5 +158,5 @@ module _ {X : Type 0} (put : X → ℤ → Put X) where
   reads x bs = ap (λ (l : Line). finished put (feed put (fed (First l) x) bs)) (sym empty-line) ∙ first-all [] x bs
 
   -- in parts of any length
-  pub reads-parts : (x : X) (ps : List (List ℕ)) → finished put (feedParts put (fed begin x) ps) ≡ runAll put x (joined ps)
-  reads-parts x ps = ap (finished put) (parts put (fed begin x) ps) ∙ reads x (joined ps)
+  pub reads-parts : (x : X) (ps : List (List ℕ)) → finished put (feedParts put (fed begin x) ps) ≡ runAll put x (together ps)
+  reads-parts x ps = ap (finished put) (parts put (fed begin x) ps) ∙ reads x (together ps)

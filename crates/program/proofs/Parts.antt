@@ -1,10 +1,10 @@
 -- Laws of parts: where the input is cut changes nothing. Assumes nothing.
-use mathlib.Core.Path.{_≡_, refl, sym, _∙_, ap}
+use mathlib.Core.Path.{_≡_, refl, sym, _∙_}
 use mathlib.Core.List.{List, [], _∷_, _++_}
 use Prim.Native.Nat.{ℕ}
 use lib.IntN.{ℤ}
 use Rattle.program.specs.Turns.{Put}
-use Rattle.program.specs.Reader.{joined, Fed, fed, step, feed, feedParts}
+use Rattle.program.specs.Reader.{together, Fed, step, feed, feedParts}
 
 module _ {X : Type 0} (put : X → ℤ → Put X) where
   -- a part, then another
@@ -19,7 +19,7 @@ module _ {X : Type 0} (put : X → ℤ → Put X) where
   feed-snoc f bs b = feed-append f bs (b ∷ [])
 
   -- any parts are as good as one
-  pub parts : (f : Fed X) (ps : List (List ℕ)) → feedParts put f ps ≡ feed put f (joined ps)
-  unfolding feed feedParts joined
+  pub parts : (f : Fed X) (ps : List (List ℕ)) → feedParts put f ps ≡ feed put f (together ps)
+  unfolding feed feedParts together
   parts f [] = refl
-  parts f (p ∷ ps) = parts (feed put f p) ps ∙ sym (feed-append f p (joined ps))
+  parts f (p ∷ ps) = parts (feed put f p) ps ∙ sym (feed-append f p (together ps))

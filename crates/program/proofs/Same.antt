@@ -1,6 +1,6 @@
 -- Laws of turns: what is said of one thing that ids are put into holds of another that answers alike. Assumes nothing.
 use mathlib.Core.Path.{_≡_, refl, subst}
-use mathlib.Core.List.{List, [], _∷_, _++_}
+use mathlib.Core.List.{List, [], _∷_}
 use Prim.Native.Nat.{ℕ}
 use lib.IntN.{ℤ}
 use mir.Syntax.{w64}
@@ -14,7 +14,7 @@ use Rattle.lines.proofs.Ways.{id-fits}
 use Rattle.document.specs.declared.answer.Outcome.{Outcome}
 use Rattle.document.specs.declared.answer.Outcome.the-variants as outcome
 use Rattle.program.specs.Input.{linesOf, Read, whole, bad, following, afterId, idsFrom, afterSize, readLines, readPlan}
-use Rattle.program.specs.Turns.{Put, Run, run, orRest, inTurn, runRead, runAll}
+use Rattle.program.specs.Turns.{Put, Run, orRest, inTurn, runRead, runAll}
 use Rattle.program.specs.declared.Ended.{Ended}
 use Rattle.program.specs.declared.Ended.the-variants as ended
 

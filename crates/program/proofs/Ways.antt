@@ -1,8 +1,7 @@
 -- A law for each way through the functions that take the input. Assumes nothing.
-use mathlib.Core.Path.{_≡_, refl, sym, _∙_, ap}
-use mathlib.Core.Bool.{Bool, true, false, cond}
+use mathlib.Core.Path.{_≡_, sym, _∙_, ap}
+use mathlib.Core.Bool.{Bool, true, false}
 use Prim.Native.Nat.{ℕ}
-use lib.Dec.{eqb}
 use borrow.Author.Tests.{eq-eqb, ne-eqb}
 use Rattle.lines.specs.Reader.{next, emptyIn, sizeIn, idIn}
 use Rattle.lines.specs.declared.Line.{Line}
@@ -10,9 +9,9 @@ use Rattle.lines.specs.declared.Line.the-variants.{Empty}
 use Rattle.program.specs.Input.{following}
 use Rattle.program.specs.Reader.{sizeRead, idRead, byteOn, noByte, goOn}
 use Rattle.program.specs.declared.Act.{Act}
-use Rattle.program.specs.declared.Act.the-variants.{Go, Insert}
+use Rattle.program.specs.declared.Act.the-variants.{Go}
 use Rattle.program.specs.declared.Input.{Input}
-use Rattle.program.specs.declared.Input.the-variants.{First, Next, Bad, Refused}
+use Rattle.program.specs.declared.Input.the-variants.{First, Next}
 use Rattle.document.specs.declared.answer.Outcome.{Outcome}
 use Rattle.document.specs.declared.answer.Outcome.the-variants as outcome
 

@@ -1,5 +1,5 @@
 -- What the reader keeps of the input so far, and what comes next: a function of the bytes, however they are cut into parts.
-use mathlib.Core.Bool.{Bool, cond}
+use mathlib.Core.Bool.{cond}
 use mathlib.Core.List.{List, [], _∷_, _++_}
 use Prim.Native.Nat.{ℕ}
 use lib.Dec.{eqb}
@@ -59,9 +59,9 @@ settled (Refused c) = ended.Refused c
 -- ---- bytes in turn, and what they are put into
 
 -- the parts, one after the other
-unfoldable pub joined : List (List ℕ) → List ℕ
-joined [] = []
-joined (p ∷ ps) = p ++ joined ps
+unfoldable pub together : List (List ℕ) → List ℕ
+together [] = []
+together (p ∷ ps) = p ++ together ps
 
 pub record Fed (X : Type 0) : Type 0 where
   pub at : Input

@@ -1,5 +1,5 @@
 -- Laws of text behind text. Assumes nothing.
-use mathlib.Core.Path.{_≡_, refl, sym, _∙_, ap}
+use mathlib.Core.Path.{_≡_, sym, _∙_, ap}
 use mathlib.Core.List.{List, [], _∷_, _++_, append-assoc, append-nil}
 use Prim.Native.Nat.{ℕ, suc, _+_, _≤_, _<_}
 use native.Mathlib.Numerals.{add-one}
@@ -52,10 +52,6 @@ spelt {m} {n} {a} {b} {t} {u} {i} {j} e h p =
       ends = omega (arith, p .ends);
       says = p .says ∙ ap (λ (x : List ℕ). take i a ++ x) e;
     }
-
--- where a text of at most so many bytes ends
-pub ends-by : {m : ℕ} {a b t : List ℕ} {i j : ℕ} → Appends m a b i j t → j ≤ i + m
-ends-by p = omega (arith, p .short, p .ends)
 
 -- nothing
 pub nothing : (a : List ℕ) (i : ℕ) → Appends 0 a a i i []

@@ -1,13 +1,13 @@
 -- Laws of a plan's text: a plan that was made of a set, with its boundaries, is written as the set says. Assumes nothing.
-use mathlib.Core.Path.{_≡_, refl, sym, _∙_, ap, ap₂}
-use mathlib.Core.List.{List, [], _∷_, _++_}
-use Prim.Native.Nat.{ℕ, zero, suc, _*_, _≤_, _<_}
+use mathlib.Core.Path.{_≡_, refl, _∙_, ap, ap₂}
+use mathlib.Core.List.{List, _++_}
+use Prim.Native.Nat.{ℕ, zero, suc, _≤_, _<_}
 use native.Mathlib.Omega.{arith}
 use lib.IntN.{ℤ}
 use Rattle.sums.specs.Ids.{Ids, total}
-use Rattle.sums.specs.Cuts.{size, parts, Interval, held, part}
+use Rattle.sums.specs.Cuts.{parts, part}
 use Rattle.document.specs.Plan.{planOf}
-use Rattle.document.specs.Spans.{spanAt, intervalOf, idsAnswer, ranksAnswer}
+use Rattle.document.specs.Spans.{spanAt, intervalOf, idsAnswer}
 use Rattle.document.specs.declared.plan.Span.{Span}
 use Rattle.document.specs.declared.plan.Span.the-variants.{Between, From}
 use Rattle.intervals.proofs.Intervals.{Bounded, span-part, ids-part, ranks-part}

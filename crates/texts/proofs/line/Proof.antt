@@ -1,6 +1,5 @@
 -- By what is said. Assumes nothing.
 use mathlib.Core.Path.{sym, ap}
-use Prim.Native.Nat.{ℕ}
 use Rattle.program.specs.declared.Said.{Said}
 use Rattle.texts.specs.Text.{lineText}
 use Rattle.texts.proofs.Spelt.{starts}
