@@ -1,6 +1,7 @@
 //! Calls on dense chunks: every chunk up to the last id is prepared, and its memory touched, before any time is taken.
 use crate::ids::{Random, Walk};
 use crate::idset::{IdSet, RankedIdSet};
+use crate::lists::{Answers, inserted};
 use crate::memory::{DONE, Memory, Sizes};
 use crate::table::Table;
 use crate::{Scale, again, each, locations, sum};
@@ -60,11 +61,14 @@ fn listed(x: &mut Memory) -> u64 {
 }
 
 /// Calls on a ranked one.
-fn ranked(asked: &[i64], x: &mut Memory, rust: &RankedIdSet, table: &mut Table) {
+fn ranked(asked: &[i64], x: &mut Memory, rust: &RankedIdSet, answers: &mut Answers, table: &mut Table) {
     table.over("`get` random", asked, |ids| sum(ids, |id| u64::from(x.bp_get(id).yes)), |ids| sum(ids, |id| u64::from(rust.get(id))));
     table.over("`rank` random", asked, |ids| sum(ids, |id| x.bp_rank(id).value), |ids| sum(ids, |id| rust.rank(id)));
     let rank_if_set = |ids: &[i64]| sum(ids, |id| rust.rank_if_set(id).unwrap_or(0));
     table.over("`rank_if_set` random", asked, |ids| sum(ids, |id| x.bp_rank_if_set(id).value), rank_if_set);
+    table.over("`get` random, a list", asked, |ids| answers.got(x, ids), |ids| sum(ids, |id| u64::from(rust.get(id))));
+    table.over("`rank` random, a list", asked, |ids| answers.ranks(x, ids), |ids| sum(ids, |id| rust.rank(id)));
+    table.over("`rank_if_set` random, a list", asked, |ids| answers.ranks_if_set(x, ids), rank_if_set);
     let slots = rust.total_count().div_ceil(PARTITIONS as u64);
     table.both("a boundary of a plan of 200", PARTITIONS - 1, || planned(x, slots), || sum(&locations::planned(rust, slots).0, |id| id as u64));
     table.alone("full check, ranked", || x.bp_check());
@@ -81,16 +85,19 @@ pub fn run(scale: &Scale, table: &mut Table) {
     let rising: Vec<i64> = Walk::new(scale.ids, scale.last).collect();
     let mixed = Random::new(3).mixed(&rising);
     let (last, asked) = (scale.last as i64, &mixed[..rising.len() / 5]);
-    let mut x = Memory::new(sizes(last));
+    let (mut x, mut answers) = (Memory::new(sizes(last)), Answers::new(asked.len()));
     for _ in 0..scale.rounds {
         let mut rust = prepared(&mut x, last);
         inserts("insert rising, dense", &rising, &mut x, &mut rust, table);
+        drop(rust);
+        let mut rust = prepared(&mut x, last);
+        table.over("insert rising, dense, a list", &rising, |ids| inserted(&mut x, ids), |ids| sum(ids, |id| u64::from(rust.set_if_new(id))));
         drop(rust);
         let mut rust = prepared(&mut x, last);
         inserts("insert random, dense", &mixed, &mut x, &mut rust, table);
         open(&rising, asked, &mut x, &mut rust, table);
         let mut by_rank = None;
         table.both("ranking", 1, || x.bp_into_ranked().refusal, || u64::from(by_rank.insert(rust.into_ranked()).get(-1)));
-        ranked(asked, &mut x, &by_rank.expect("a ranked set"), table);
+        ranked(asked, &mut x, &by_rank.expect("a ranked set"), &mut answers, table);
     }
 }

@@ -14,6 +14,7 @@ mod ids;
 #[allow(dead_code, clippy::all)]
 mod idset;
 mod instructions;
+mod lists;
 #[allow(dead_code, clippy::all)]
 mod locations;
 mod machine;

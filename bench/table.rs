@@ -12,19 +12,25 @@ pub const US: Unit = Unit("µs", 1e3);
 pub const MS: Unit = Unit("ms", 1e6);
 
 /// The rows in a reader's order.
-const ROWS: [(&str, Unit); 28] = [
+const ROWS: [(&str, Unit); 34] = [
     ("insert rising, dense", NS),
     ("insert random, dense", NS),
     ("`set` rising, dense, of members", NS),
     ("`get` random", NS),
     ("`rank` random", NS),
     ("`rank_if_set` random", NS),
+    ("insert rising, dense, a list", NS),
+    ("`get` random, a list", NS),
+    ("`rank` random, a list", NS),
+    ("`rank_if_set` random, a list", NS),
     ("insert rising into rows", NS),
     ("insert rising at the end of rows", NS),
     ("`get` random in rows", NS),
     ("`get` random in eight rows", NS),
     ("`get` random in eight rows of eight", NS),
     ("`get` random in rows of eight", NS),
+    ("insert rising into rows, a list", NS),
+    ("`get` random in rows, a list", NS),
     ("ranking", MS),
     ("a boundary of a plan of 200", US),
     ("`allocated_chunk_count`", US),
