@@ -16,7 +16,7 @@ use layout::place::Place;
 use numbers::power;
 
 // A chunk past the direct entries: by the short test.
-fn far(pages: &[u64], rows: &[u32], blocks: &[u32], table: &[u64], h: Sizes, c: u64) -> Spot
+pub fn far(pages: &[u64], rows: &[u32], blocks: &[u32], table: &[u64], h: Sizes, c: u64) -> Spot
     requires { ⌜ Judged (memOf pages rows blocks table) h × (c < 2 ^ 62) ⌝ }
     ensures { λ q. ⌜ (let x = memOf (pages .entry) (rows .entry) (blocks .entry) (table .entry) in
         q ≡ spotBy x (wordOf (head x) (x .table) c)) ⌝ }
@@ -27,6 +27,7 @@ fn far(pages: &[u64], rows: &[u32], blocks: &[u32], table: &[u64], h: Sizes, c: 
     }
 }
 
+// A chunk below D. Small, so that it is compiled into the loops.
 pub fn of_chunk(
     pages: &[u64],
     rows: &[u32],
@@ -35,13 +36,10 @@ pub fn of_chunk(
     h: Sizes,
     c: u64,
 ) -> Spot
-    requires { ⌜ Judged (memOf pages rows blocks table) h × (c < 2 ^ 62) ⌝ }
+    requires { ⌜ Judged (memOf pages rows blocks table) h × (c < h .d) ⌝ }
     ensures { λ q. ⌜ (let x = memOf (pages .entry) (rows .entry) (blocks .entry) (table .entry) in
         q ≡ spotBy x (wordOf (head x) (x .table) c)) ⌝ }
 {
-    if h.d <= c {
-        return far(pages, rows, blocks, table, h, c);
-    }
     match entry::place_at(table, h, c) {
         Place::Absent => Spot::Nowhere,
         Place::Sparse(r, l) => Spot::Row(head::row_at(h, r) as usize, h.m as usize, l as usize),

@@ -1,5 +1,5 @@
 -- By where the id lies. Assumes nothing.
-use mathlib.Core.Path.{_≡_, _∙_}
+use mathlib.Core.Path.{_≡_, refl, _∙_}
 use Prim.Native.Nat.{_^_, _<_}
 use native.Mathlib.Omega.{arith}
 use Rattle.numbers.specs.Ids.{splitOf}
@@ -31,19 +31,30 @@ returns c =
     let a = c .before .before .before .before .before .before .before in
     got-negative (a .pre) (a .args .id) (split-is _ (a .args .id) (a .fits .id) _ (c .before .before .split .ensures) _ (c .enum-told .given .1))
 
-of-chunk-requires : tie.Need-of-chunk-requires
-of-chunk-requires c κs = (c .before .before .before .before .before .before .before .before .pre, small c .0)
-
-has-requires : tie.Need-has-requires
-has-requires c κs = let a = c .before .before .before .before .before .before .before .before .before in spot-within (a .pre) _ _ (small (c .before) .1) _ (c .of-chunk .ensures)
+far-has-requires : tie.Need-far-has-requires
+far-has-requires c κs = let k = c .before .before in (c .before .before .before .before .before .before .before .before .before .before .pre, small k .0, small k .1)
 
 of-truth-requires : tie.Need-of-truth-requires
 of-truth-requires c κs = search needs
 
 returns-2 : tie.Need-returns-2
 returns-2 c =
-    let a = c .before .before .before .before .before .before .before .before .before .before .before in
-    c .of-truth .ensures ∙ got-here (a .pre) (a .args .id) _ _ (lies (c .before .before .before)) _ _ (c .before .before .of-chunk .ensures) (c .before .has .ensures)
+    let a = c .before .before .before .before .before .before .before .before .before .before .before .before in
+    c .of-truth .ensures ∙ got-here (a .pre) (a .args .id) _ _ (lies (c .before .before .before .before)) _ _ refl (c .before .far-has .ensures)
+
+of-chunk-requires : tie.Need-of-chunk-requires
+of-chunk-requires c κs = search needs
+
+has-requires : tie.Need-has-requires
+has-requires c κs = let a = c .before .before .before .before .before .before .before .before .before .before .before in spot-within (a .pre) _ _ (small (c .before .before .before) .1) _ (c .of-chunk .ensures)
+
+of-truth-requires-2 : tie.Need-of-truth-requires-2
+of-truth-requires-2 c κs = search needs
+
+returns-3 : tie.Need-returns-3
+returns-3 c =
+    let a = c .before .before .before .before .before .before .before .before .before .before .before .before .before in
+    c .of-truth2 .ensures ∙ got-here (a .pre) (a .args .id) _ _ (lies (c .before .before .before .before .before)) _ _ (c .before .before .of-chunk .ensures) (c .before .has .ensures)
 
 pub got-spec : {M : Type 1} → statement M
 got-spec =
@@ -53,7 +64,10 @@ got-spec =
     enum-known-c
     enum-told
     returns
+    far-has-requires
+    of-truth-requires
+    returns-2
     of-chunk-requires
     has-requires
-    of-truth-requires
-    returns-2)
+    of-truth-requires-2
+    returns-3)

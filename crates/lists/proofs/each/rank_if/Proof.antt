@@ -9,7 +9,7 @@ use Rattle.layout.specs.Mem.{Mem, memOf}
 use Rattle.calls.proofs.Shifts.{split-is}
 use Rattle.lists.specs.Lists.{get-all, rank-all, oneBy}
 use Rattle.lists.proofs.AfterWalk.{rank-if-none, rank-if-some}
-use Rattle.lists.proofs.Near.{judged-range, lies-small, spot-within, got-negative, got-here}
+use Rattle.lists.proofs.Near.{judged-range, lies-small, got-negative}
 use borrow.Author.Needs.{needs}
 use Rattle.lists.proofs.each.rank_if.Statement.{statement}
 use Rattle.lists.proofs.each.rank_if.Tie as tie
@@ -24,10 +24,8 @@ lies c = let a = c .before .before .before .before .before .before .before .befo
 small : (c : tie.After-known-told) → (c .before .c .given .0 .0 < 2 ^ 62) × (c .before .c .given .0 .1 .0 < 2 ^ c .before .before .before .before .before .before .before .before .args .h .s)
 small c = let a = c .before .before .before .before .before .before .before .before in lies-small (a .pre .0) (a .args .id) (a .fits .id) _ _ (lies c)
 
-there : (c : tie.After-of-truth) → let a = c .before .before .before .before .before .before .before .before .before .before .before in c .of-truth .result ≡ oneBy (memory a) get-all (a .args .id)
-there c =
-    let a = c .before .before .before .before .before .before .before .before .before .before .before in
-    c .of-truth .ensures ∙ got-here (a .pre .0) (a .args .id) _ _ (lies (c .before .before .before)) _ _ (c .before .before .of-chunk .ensures) (c .before .has .ensures)
+asked : (c : tie.After-there) → let a = c .before .before .before .before .before .before .before .before .before in c .there .result ≡ oneBy (memory a) get-all (a .args .id)
+asked c = let a = c .before .before .before .before .before .before .before .before .before in c .there .ensures ∙ hop (oneBy (memory a) get-all) (a .args .id) (a .fits .id)
 
 split-requires : tie.Need-split-requires
 split-requires c κs = omega (arith, judged-range (c .before .before .before .before .pre .0) .s-high)
@@ -44,29 +42,25 @@ returns c =
     rank-if-none (a .pre .0 .walks) (a .pre .1) (a .args .id)
     (sym (got-negative (a .pre .0) (a .args .id) (split-is _ (a .args .id) (a .fits .id) _ (c .before .before .split .ensures) _ (c .enum-told .given .1))))
 
-of-chunk-requires : tie.Need-of-chunk-requires
-of-chunk-requires c κs = (c .before .before .before .before .before .before .before .before .pre .0, small c .0)
-
-has-requires : tie.Need-has-requires
-has-requires c κs = let a = c .before .before .before .before .before .before .before .before .before in spot-within (a .pre .0) _ _ (small (c .before) .1) _ (c .of-chunk .ensures)
-
-of-truth-requires : tie.Need-of-truth-requires
-of-truth-requires c κs = search needs
+there-requires : tie.Need-there-requires
+there-requires c κs =
+    let a = c .before .before .before .before .before .before .before .before in
+    (a .pre .0, lies c ∙ sym (hop (splitOf (a .args .h .s)) (a .args .id) (a .fits .id)), small c .0)
 
 returns-2 : tie.Need-returns-2
-returns-2 c = let a = c .before .before .before .before .before .before .before .before .before .before .before .before in rank-if-none (a .pre .0 .walks) (a .pre .1) (a .args .id) (sym (there (c .before)) ∙ c .if1 .taken)
+returns-2 c = let a = c .before .before .before .before .before .before .before .before .before .before in rank-if-none (a .pre .0 .walks) (a .pre .1) (a .args .id) (sym (asked (c .before)) ∙ c .if1 .taken)
 
 rank-in-requires : tie.Need-rank-in-requires
 rank-in-requires c κs =
-    let a = c .before .before .before .before .before .before .before .before .before .before .before .before in
-    let k = c .before .before .before .before in
+    let a = c .before .before .before .before .before .before .before .before .before .before in
+    let k = c .before .before in
     (a .pre .0, a .pre .1, lies k ∙ sym (hop (splitOf (a .args .h .s)) (a .args .id) (a .fits .id)), small k .0)
 
 returns-3 : tie.Need-returns-3
 returns-3 c =
-    let a = c .before .before .before .before .before .before .before .before .before .before .before .before .before in
+    let a = c .before .before .before .before .before .before .before .before .before .before .before in
     c .rank-in .ensures ∙ hop (oneBy (memory a) rank-all) (a .args .id) (a .fits .id)
-    ∙ rank-if-some (a .pre .0 .walks) (a .pre .1) (a .args .id) (λ e. c .before .if1 .left (there (c .before .before) ∙ e))
+    ∙ rank-if-some (a .pre .0 .walks) (a .pre .1) (a .args .id) (λ e. c .before .if1 .left (asked (c .before .before) ∙ e))
 
 pub rank-if-spec : {M : Type 1} → statement M
 rank-if-spec =
@@ -76,9 +70,7 @@ rank-if-spec =
     enum-known-c
     enum-told
     returns
-    of-chunk-requires
-    has-requires
-    of-truth-requires
+    there-requires
     returns-2
     rank-in-requires
     returns-3)

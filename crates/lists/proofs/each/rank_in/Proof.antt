@@ -27,7 +27,7 @@ returns c =
 placed-requires : tie.Need-placed-requires
 placed-requires c κs =
     let a = c .before .before .before .before .before .before in
-    (a .pre .0, a .pre .3, c .if1 .left, lies-small (a .pre .0) (a .args .id) (a .fits .id) (a .args .c) (a .args .o) (a .pre .2) .1)
+    (a .pre .0, c .if1 .left, lies-small (a .pre .0) (a .args .id) (a .fits .id) (a .args .c) (a .args .o) (a .pre .2) .1)
 
 of-amount-requires-2 : tie.Need-of-amount-requires-2
 of-amount-requires-2 c κs = search needs
