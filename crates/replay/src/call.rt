@@ -1,16 +1,16 @@
 // The calls, each by its verb (verb::of). What they answer is said by verb too (say::answer), but for those that say it themselves.
 use crate::many;
 use crate::marks;
-use crate::memory;
 use crate::partition;
-use crate::say;
-use crate::told;
-use crate::told::Told;
-use crate::verb;
 use exports::change;
 use exports::number;
 use exports::read;
 use lines::words;
+use replies::memory;
+use replies::say;
+use replies::told;
+use replies::told::Told;
+use replies::verb;
 
 // `setup K s m D V R P`
 fn set_up(line: &[u8], p: &mut [u64], r: &mut [u32], b: &mut [u32], t: &mut [u64]) -> Told {

@@ -1,19 +1,18 @@
 // Replays calls: one a line from standard input, one answer a line to standard output (docs/REPLAY.md).
 // Pools go by the letters that `dump` shows: p pages, r rows, b block counts, t table, c boundaries.
 mod call;
-mod input;
 mod many;
 mod marks;
-mod memory;
 mod pair;
 mod partition;
-mod say;
-mod told;
-mod verb;
 
 ghost use mathlib.Core.Path.{_≡_};
 ghost use Prim.Native.Nat.{_≤_};
 ghost use lib.ListN.{length};
+use replies::input;
+use replies::say;
+use replies::told;
+use replies::verb;
 
 // A line on the set that these slices hold.
 fn on(

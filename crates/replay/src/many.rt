@@ -1,8 +1,8 @@
 // Calls over a list: `getall`, `rankall`, `rankifall` and `insertall`, on the one to eight ids that a line ends in.
 ghost use Prim.Native.Nat.{_≤_};
-use crate::say;
 use exports::list;
 use lines::words;
+use replies::say;
 use std::num;
 
 // The ids, from word 2 on.

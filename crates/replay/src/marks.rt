@@ -1,9 +1,9 @@
 // The range list: `mark` and `meet`, on the one to eight ranges that a line ends in.
 ghost use Prim.Native.Nat.{_≤_};
-use crate::say;
-use crate::verb;
 use exports::ranges;
 use lines::words;
+use replies::say;
+use replies::verb;
 use std::num;
 
 // One end of each range: every other word from word j on.

@@ -2,9 +2,9 @@
 ghost use mathlib.Core.Path.{_≡_};
 ghost use Prim.Native.Nat.{_≤_};
 ghost use lib.ListN.{length};
-use crate::memory;
 use codes::answer::DoneAnswer;
 use exports::union;
+use replies::memory;
 
 // The elements from one on, as far as there is room in the other from one on.
 fn copy(from: &[u64], a: usize, to: &mut [u64], b: usize) {

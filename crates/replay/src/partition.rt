@@ -1,9 +1,9 @@
 // Plans, and the calls on a partition: number k, word 6, of the record that words 2 to 4 are, with as many of a set's boundaries as word 5 says.
-use crate::say;
-use crate::verb;
 use codes::cut::IntervalAnswer;
 use exports::partition;
 use lines::words;
+use replies::say;
+use replies::verb;
 
 // `plan K S room`
 pub fn plan(line: &[u8], p: &[u64], r: &[u32], b: &[u32], t: &[u64], c: &mut [i64]) {

@@ -2,8 +2,8 @@
 use Prim.Native.Nat.{_-_}
 use borrow.Author.Needs.{needs}
 use lib.ListN.{length}
-use Rattle.replay.proofs.say.few.Statement.{statement}
-use Rattle.replay.proofs.say.few.Tie as tie
+use Rattle.replies.proofs.say.few.Statement.{statement}
+use Rattle.replies.proofs.say.few.Tie as tie
 
 abbrev Inv-loop : tie.InvT-loop
 Inv-loop ranks n i₀ i = Unit {0}

@@ -2,26 +2,23 @@
 use Prim.Native.Nat.{_-_}
 use borrow.Author.Needs.{needs}
 use lib.ListN.{length}
-use Rattle.replay.proofs.memory.boundaries.Statement.{statement}
-use Rattle.replay.proofs.memory.boundaries.Tie as tie
+use Rattle.replies.proofs.memory.elements.Statement.{statement}
+use Rattle.replies.proofs.memory.elements.Tie as tie
 
 abbrev Inv-loop : tie.InvT-loop
-Inv-loop some c now₀ i₀ now i = Unit {0}
+Inv-loop some name pool now₀ i₀ now i = Unit {0}
 
 abbrev μ-loop : tie.MeasureT-loop
-μ-loop some c now₀ i₀ now i = length c - i
+μ-loop some name pool now₀ i₀ now i = length pool - i
 
 loop-holds : tie.Need-loop-holds Inv-loop μ-loop
 loop-holds c = search needs
 
-mul-z : tie.Need-mul-z Inv-loop μ-loop
-mul-z c = search needs
+mul-element : tie.Need-mul-element Inv-loop μ-loop
+mul-element c = search needs
 
-shared-slice-copy-out-z : tie.Need-shared-slice-copy-out-z Inv-loop μ-loop
-shared-slice-copy-out-z c = search needs
-
-magnitude-requires : tie.Need-magnitude-requires Inv-loop μ-loop
-magnitude-requires c κs = search needs
+shared-slice-read-element : tie.Need-shared-slice-read-element Inv-loop μ-loop
+shared-slice-read-element c = search needs
 
 element-requires : tie.Need-element-requires Inv-loop μ-loop
 element-requires c κs = search needs
@@ -38,16 +35,15 @@ loop-again c = search needs
 returns : tie.Need-returns Inv-loop μ-loop
 returns c = search needs
 
-pub boundaries-spec : {M : Type 1} → statement M
-boundaries-spec =
+pub elements-spec : {M : Type 1} → statement M
+elements-spec =
     tie.close
     (tie.spec
     Inv-loop
     μ-loop
     loop-holds
-    mul-z
-    shared-slice-copy-out-z
-    magnitude-requires
+    mul-element
+    shared-slice-read-element
     element-requires
     add-i
     loop-less

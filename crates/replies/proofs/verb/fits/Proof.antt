@@ -2,8 +2,8 @@
 use Prim.Native.Nat.{_-_}
 use borrow.Author.Needs.{needs}
 use lib.ListN.{length}
-use Rattle.replay.proofs.verb.fits.Statement.{statement}
-use Rattle.replay.proofs.verb.fits.Tie as tie
+use Rattle.replies.proofs.verb.fits.Statement.{statement}
+use Rattle.replies.proofs.verb.fits.Tie as tie
 
 abbrev Inv-loop : tie.InvT-loop
 Inv-loop line kinds ok₀ i₀ ok i = Unit {0}

@@ -1,9 +1,10 @@
 -- Each turn uses up one element. Assumes nothing.
 use Prim.Native.Nat.{_-_}
 use borrow.Author.Needs.{needs}
+use native.Mathlib.Omega.{arith}
 use lib.ListN.{length}
-use Rattle.replay.proofs.memory.elements.Statement.{statement}
-use Rattle.replay.proofs.memory.elements.Tie as tie
+use Rattle.replies.proofs.memory.elements32.Statement.{statement}
+use Rattle.replies.proofs.memory.elements32.Tie as tie
 
 abbrev Inv-loop : tie.InvT-loop
 Inv-loop some name pool now₀ i₀ now i = Unit {0}
@@ -20,6 +21,9 @@ mul-element c = search needs
 shared-slice-read-element : tie.Need-shared-slice-read-element Inv-loop μ-loop
 shared-slice-read-element c = search needs
 
+cast-element : tie.Need-cast-element Inv-loop μ-loop
+cast-element c = omega (arith, c .shared-slice-known2 .given (c .before .before .loop .i))
+
 element-requires : tie.Need-element-requires Inv-loop μ-loop
 element-requires c κs = search needs
 
@@ -35,8 +39,8 @@ loop-again c = search needs
 returns : tie.Need-returns Inv-loop μ-loop
 returns c = search needs
 
-pub elements-spec : {M : Type 1} → statement M
-elements-spec =
+pub elements32-spec : {M : Type 1} → statement M
+elements32-spec =
     tie.close
     (tie.spec
     Inv-loop
@@ -44,6 +48,7 @@ elements-spec =
     loop-holds
     mul-element
     shared-slice-read-element
+    cast-element
     element-requires
     add-i
     loop-less

@@ -2,8 +2,8 @@
 use Prim.Native.Nat.{_-_}
 use borrow.Author.Needs.{needs}
 use lib.ListN.{length}
-use Rattle.replay.proofs.say.ids.Statement.{statement}
-use Rattle.replay.proofs.say.ids.Tie as tie
+use Rattle.replies.proofs.say.ids.Statement.{statement}
+use Rattle.replies.proofs.say.ids.Tie as tie
 
 abbrev Inv-loop : tie.InvT-loop
 Inv-loop c n i₀ t4 i = Unit {0}
