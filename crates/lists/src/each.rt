@@ -137,7 +137,7 @@ fn there(
     number::of_truth(part::has(pages, rows, q, o))
 }
 
-// The rank of a member: is it there, and then where.
+// The rank of a member: is it there, and then where, by the single call: with two callers `rank_in` would be compiled into neither loop.
 pub fn rank_if(pages: &[u64], rows: &[u32], blocks: &[u32], table: &[u64], h: Sizes, id: i64) -> u64
     requires { ⌜ (let x = memOf pages rows blocks table in Judged x h × (ranked x ≡ true)) ⌝ }
     ensures { λ n. ⌜ n ≡ oneBy (memOf (pages .entry) (rows .entry) (blocks .entry) (table .entry)) rank-if-all id ⌝ }
@@ -148,5 +148,5 @@ pub fn rank_if(pages: &[u64], rows: &[u32], blocks: &[u32], table: &[u64], h: Si
     if there(pages, rows, blocks, table, h, id, c, o) == 0 {
         return NO_RANK;
     }
-    rank_in(pages, rows, blocks, table, h, id, c, o)
+    number::of_amount(rank::rank(pages, rows, blocks, table, id))
 }

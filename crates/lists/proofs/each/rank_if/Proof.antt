@@ -1,5 +1,5 @@
 -- Is it there, and then where. Assumes nothing.
-use mathlib.Core.Path.{_≡_, sym, _∙_}
+use mathlib.Core.Path.{_≡_, sym, ap, _∙_}
 use Prim.Native.Nat.{_^_, _<_}
 use native.Mathlib.Omega.{arith}
 use Rattle.numbers.specs.Ids.{splitOf}
@@ -7,7 +7,9 @@ use Rattle.numbers.specs.declared.Split.the-variants.{At}
 use Rattle.numbers.proofs.Signs.{hop}
 use Rattle.layout.specs.Mem.{Mem, memOf}
 use Rattle.calls.proofs.Shifts.{split-is}
-use Rattle.lists.specs.Lists.{get-all, rank-all, oneBy}
+use Rattle.ranks.specs.Rank.{rankBy}
+use Rattle.lists.specs.Lists.{get-all, amountNumber, oneBy}
+use Rattle.lists.proofs.Singles.{rank-by}
 use Rattle.lists.proofs.AfterWalk.{rank-if-none, rank-if-some}
 use Rattle.lists.proofs.Near.{judged-range, lies-small, got-negative}
 use borrow.Author.Needs.{needs}
@@ -50,17 +52,17 @@ there-requires c κs =
 returns-2 : tie.Need-returns-2
 returns-2 c = let a = c .before .before .before .before .before .before .before .before .before .before in rank-if-none (a .pre .0 .walks) (a .pre .1) (a .args .id) (sym (asked (c .before)) ∙ c .if1 .taken)
 
-rank-in-requires : tie.Need-rank-in-requires
-rank-in-requires c κs =
-    let a = c .before .before .before .before .before .before .before .before .before .before in
-    let k = c .before .before in
-    (a .pre .0, a .pre .1, lies k ∙ sym (hop (splitOf (a .args .h .s)) (a .args .id) (a .fits .id)), small k .0)
+rank-requires : tie.Need-rank-requires
+rank-requires c κs = search needs
+
+of-amount-requires : tie.Need-of-amount-requires
+of-amount-requires c κs = search needs
 
 returns-3 : tie.Need-returns-3
 returns-3 c =
-    let a = c .before .before .before .before .before .before .before .before .before .before .before in
-    c .rank-in .ensures ∙ hop (oneBy (memory a) rank-all) (a .args .id) (a .fits .id)
-    ∙ rank-if-some (a .pre .0 .walks) (a .pre .1) (a .args .id) (λ e. c .before .if1 .left (asked (c .before .before) ∙ e))
+    let a = c .before .before .before .before .before .before .before .before .before .before .before .before in
+    c .of-amount .ensures ∙ ap amountNumber (rank-by (memory a) _ _ (c .before .rank .ensures) ∙ hop (rankBy (memory a)) (a .args .id) (a .fits .id))
+    ∙ rank-if-some (a .pre .0 .walks) (a .pre .1) (a .args .id) (λ e. c .before .before .if1 .left (asked (c .before .before .before) ∙ e))
 
 pub rank-if-spec : {M : Type 1} → statement M
 rank-if-spec =
@@ -72,5 +74,6 @@ rank-if-spec =
     returns
     there-requires
     returns-2
-    rank-in-requires
+    rank-requires
+    of-amount-requires
     returns-3)
