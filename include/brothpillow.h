@@ -212,7 +212,8 @@ bp_done bp_mark_ends_by_range(BP_RANGES, BP_SET);
 /* The same where they meet partition k. Refusals: 3, 12. */
 bp_done bp_mark_ends_by_partition(BP_RANGES, uint64_t total, uint64_t slots, uint64_t partitions, const int64_t *bounds, size_t bounds_n, uint64_t k);
 
-/* ---- calls over a list of ids: as many as the shorter of ids and answers has; answers past them stay. A refusal leaves every answer as it was */
+/* ---- calls over a list of ids: as many as the shorter of ids and answers has; answers past them stay. A refusal leaves every answer as it was.
+ * Reading ones look at all d + v entries first, so for a few ids single calls are cheaper */
 
 #define BP_IDS const int64_t *ids, size_t ids_n
 
