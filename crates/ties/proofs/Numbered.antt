@@ -49,6 +49,7 @@ use Rattle.document.specs.declared.plan.Ranks.{Ranks}
 use Rattle.document.specs.declared.plan.Ranks.the-variants as ranks
 use Rattle.layout.specs.Mem.{Mem}
 use Rattle.layout.specs.Sizes.{head, modeAt, totalAt, overCount}
+use Rattle.layout.specs.Meaning.{ranked}
 use Rattle.layout.specs.Places.{decoded, rowPart, pagePart}
 use Rattle.layout.specs.Short.{wordIn}
 use Rattle.layout.specs.Seat.{seatIn}
@@ -79,6 +80,7 @@ use Rattle.contracts.specs.Does.{Does, Answers, SetsUp, Joins}
 use Rattle.cuts.specs.Plan.{Cut, cut, boundsTo, planTotal, planBy}
 use Rattle.cuts.specs.Promise.{Plans}
 use Rattle.range_list.specs.Marks.{rangeAnswer, EndsByRange, EndsByPartition}
+use Rattle.lists.specs.Lists.{ListAsk, get-all, rank-all, rank-if-all, openAnswer, listAnswer, AnswersAll}
 use Rattle.codes.specs.Codes.{OutcomeNumbered, TruthNumbered, AmountNumbered, PerhapsNumbered, PlanningNumbered, SpannedNumbered, RanksNumbered}
 
 -- both ways of a test
@@ -437,6 +439,14 @@ meets-fine : (i : Spanned) → SpannedNumbered i → OutcomeNumbered (meetsAnswe
 meets-fine (spanned.Of i) h = tt
 meets-fine (spanned.Refused n) h = h
 
+open-list-fine : (mode : Bool) (k : ListAsk) → OutcomeNumbered (openAnswer mode k)
+open-list-fine mode get-all = tt
+open-list-fine mode rank-all = either OutcomeNumbered mode outcome.Done (outcome.Refused 5) tt (omega arith)
+open-list-fine mode rank-if-all = either OutcomeNumbered mode outcome.Done (outcome.Refused 5) tt (omega arith)
+
+list-fine : (x : Mem) (k : ListAsk) → OutcomeNumbered (listAnswer x k)
+list-fine x k = either OutcomeNumbered (walked x) (openAnswer (ranked x) k) (outcome.Refused 3) (open-list-fine (ranked x) k) (omega arith)
+
 -- ---- what contracts allow
 
 -- a record of iteration has a field for its refusal, which is 0 where there is none
@@ -515,3 +525,6 @@ numbered-by-range x los his ms a ms′ d = subst OutcomeNumbered (sym (d .said))
 pub numbered-by-partition : (p : made.Plan) (bs : List ℤ) (k : ℕ) (los his : List ℤ) (ms : List ℕ) (a : Outcome) (ms′ : List ℕ)
     → EndsByPartition (idsAnswer p bs k) los his ms a ms′ → OutcomeNumbered a
 numbered-by-partition p bs k los his ms a ms′ d = subst OutcomeNumbered (sym (d .said)) (meets-fine (idsAnswer p bs k) (ids-fine p bs k))
+
+pub numbered-list : (x : Mem) (k : ListAsk) (ids : List ℤ) (ns : List ℕ) (a : Outcome) (ns′ : List ℕ) → AnswersAll x k ids ns a ns′ → OutcomeNumbered a
+numbered-list x k ids ns a ns′ d = subst OutcomeNumbered (sym (d .said)) (list-fine x k)

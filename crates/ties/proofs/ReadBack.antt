@@ -17,6 +17,7 @@ use Rattle.layout.specs.Mem.{Mem}
 use Rattle.contracts.specs.Does.{Does, Answers, SetsUp, Joins}
 use Rattle.cuts.specs.Promise.{Plans}
 use Rattle.range_list.specs.Marks.{EndsByRange, EndsByPartition}
+use Rattle.lists.specs.Lists.{ListAsk, AnswersAll}
 use Rattle.codes.specs.declared.answer.DoneAnswer.{DoneAnswer}
 use Rattle.codes.specs.declared.answer.TruthAnswer.{TruthAnswer}
 use Rattle.codes.specs.declared.answer.NumberAnswer.{NumberAnswer}
@@ -28,7 +29,7 @@ use Rattle.codes.specs.Codes.{Coded, outcomeCode, truthCode, amountCode, perhap
 use Rattle.codes.specs.Codes.{OutcomeNumbered, TruthNumbered, AmountNumbered, PerhapsNumbered, PlanningNumbered}
 use Rattle.codes.proofs.Codes.{outcomeIn, truthIn, amountIn, perhapsIn, planningIn, spannedIn, ranksIn, coded-back}
 use Rattle.codes.proofs.Codes.{outcome-back, truth-back, amount-back, perhaps-back, planning-back, spanned-back, ranks-back}
-use Rattle.ties.proofs.Numbered.{numbered, numbered-reading, numbered-set-up, numbered-union, numbered-plan, numbered-ids, numbered-ranks, numbered-by-range, numbered-by-partition}
+use Rattle.ties.proofs.Numbered.{numbered, numbered-reading, numbered-set-up, numbered-union, numbered-plan, numbered-ids, numbered-ranks, numbered-by-range, numbered-by-partition, numbered-list}
 
 done-read : (says : Outcome → Type 0) → ((a : Outcome) → says a → OutcomeNumbered a) → (r : DoneAnswer) → Coded outcomeCode says r → says (outcomeIn r)
 done-read says = coded-back outcomeCode outcomeIn OutcomeNumbered outcome-back says
@@ -81,3 +82,9 @@ module _ (p : Plan) (bs : List ℤ) (k : ℕ) where
 pub by-range-back : (x : Mem) (los his : List ℤ) (ms ms′ : List ℕ) (r : DoneAnswer)
     → Coded outcomeCode (λ (a : Outcome). EndsByRange x los his ms a ms′) r → EndsByRange x los his ms (outcomeIn r) ms′
 by-range-back x los his ms ms′ = done-read (λ (a : Outcome). EndsByRange x los his ms a ms′) (λ a d. numbered-by-range x los his ms a ms′ d)
+
+-- ---- calls over a list of ids
+
+pub list-back : (x : Mem) (k : ListAsk) (ids : List ℤ) (ns ns′ : List ℕ) (r : DoneAnswer)
+    → Coded outcomeCode (λ (a : Outcome). AnswersAll x k ids ns a ns′) r → AnswersAll x k ids ns (outcomeIn r) ns′
+list-back x k ids ns ns′ = done-read (λ (a : Outcome). AnswersAll x k ids ns a ns′) (λ a d. numbered-list x k ids ns a ns′ d)
