@@ -1,5 +1,5 @@
 // What an insert is to do, found before anything is written.
-#[derive(Drop)]
+#[derive(Clone, Copy)]
 pub enum Plan {
     Refuse(u64),
     // negative, or a member already

@@ -7,14 +7,14 @@ use document::answer::{Amount, Outcome, Perhaps, Truth};
 
 // Done, where refusal is 0.
 #[repr(C)]
-#[derive(Drop)]
+#[derive(Clone, Copy)]
 pub struct DoneAnswer {
     pub refusal: u64,
 }
 
 // Yes or no.
 #[repr(C)]
-#[derive(Drop)]
+#[derive(Clone, Copy)]
 pub struct TruthAnswer {
     pub refusal: u64,
     pub yes: bool,
@@ -22,7 +22,7 @@ pub struct TruthAnswer {
 
 // A number.
 #[repr(C)]
-#[derive(Drop)]
+#[derive(Clone, Copy)]
 pub struct NumberAnswer {
     pub refusal: u64,
     pub value: u64,
@@ -30,7 +30,7 @@ pub struct NumberAnswer {
 
 // A number where there is one: else value is 0.
 #[repr(C)]
-#[derive(Drop)]
+#[derive(Clone, Copy)]
 pub struct OptionalAnswer {
     pub refusal: u64,
     pub has: bool,

@@ -6,7 +6,7 @@ use document::plan::{Planning, Ranks, Span, Spanned};
 
 // The plan that was made.
 #[repr(C)]
-#[derive(Drop)]
+#[derive(Clone, Copy)]
 pub struct PlanAnswer {
     pub refusal: u64,
     pub total: u64,
@@ -16,7 +16,7 @@ pub struct PlanAnswer {
 
 // From low up to high, excluded, where there is a high end: else from low on, and high is 0.
 #[repr(C)]
-#[derive(Drop)]
+#[derive(Clone, Copy)]
 pub struct IntervalAnswer {
     pub refusal: u64,
     pub has_high: bool,
@@ -26,7 +26,7 @@ pub struct IntervalAnswer {
 
 // First rank and count.
 #[repr(C)]
-#[derive(Drop)]
+#[derive(Clone, Copy)]
 pub struct RanksAnswer {
     pub refusal: u64,
     pub first: u64,

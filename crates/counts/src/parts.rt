@@ -7,14 +7,14 @@ use dense::words;
 use layout::find::Spot;
 
 // Whether an entry's part is inside its pool, and its members.
-#[derive(Drop)]
+#[derive(Clone, Copy)]
 pub struct Part {
     pub good: bool,
     pub size: u64,
 }
 
 // The same, asking only whether there is none.
-#[derive(Drop)]
+#[derive(Clone, Copy)]
 pub struct Vacancy {
     pub good: bool,
     pub none: bool,
@@ -23,7 +23,7 @@ pub struct Vacancy {
 // The members of entry e.
 pub fn part_at(pages: &[u64], rows: &[u32], blocks: &[u32], table: &[u64], e: u64) -> Part
     requires { (entries_ok table.now ≡ true) × (e ≤ 327680) }
-    ensures { let x = mem_of pages.entry rows.entry blocks.entry table.entry in
+    ensures { let x = mem_of pages rows blocks table in
         (result.good ≡ good_at x e) × (result.size ≡ size_by x e) }
 {
     match entries::spot_at(pages, rows, blocks, table, e) {
@@ -52,7 +52,7 @@ pub fn part_at(pages: &[u64], rows: &[u32], blocks: &[u32], table: &[u64], e: u6
 // Whether entry e has no member: a page is read up to its first.
 pub fn vacancy_at(pages: &[u64], rows: &[u32], blocks: &[u32], table: &[u64], e: u64) -> Vacancy
     requires { (entries_ok table.now ≡ true) × (e ≤ 327680) }
-    ensures { let x = mem_of pages.entry rows.entry blocks.entry table.entry in
+    ensures { let x = mem_of pages rows blocks table in
         (result.good ≡ good_at x e) × (result.none ≡ eqb (size_by x e) 0) }
 {
     match entries::spot_at(pages, rows, blocks, table, e) {

@@ -1,4 +1,6 @@
 // The plan: boundaries of a ranked set.
+#![tactic(auto)]
+
 mod bound;
 pub mod planning;
 mod search;

@@ -24,7 +24,7 @@ fn fill(
     bounds: &mut [i64],
 )
     requires { Ready (mem_of pages rows blocks table) × (n * size slots < 2 ^ 64) }
-    ensures { let x = mem_of pages.entry rows.entry blocks.entry table.entry in
+    ensures { let x = mem_of pages rows blocks table in
         bounds.new ≡ bounds_to x slots bounds.old n }
 {
     let size = order::greatest_of(1, slots);
@@ -45,7 +45,7 @@ pub fn plan(
     slots: u64,
     bounds: &mut [i64],
 ) -> Planning
-    ensures { let x = mem_of pages.entry rows.entry blocks.entry table.entry in
+    ensures { let x = mem_of pages rows blocks table in
         Plans x slots bounds.old result bounds.new }
 {
     if !walk::walk(pages, rows, blocks, table) {

@@ -11,7 +11,7 @@ use ranked::rank;
 // The rank of id n. After the walk none is refused: the second arm is never taken.
 fn rank_of(pages: &[u64], rows: &[u32], blocks: &[u32], table: &[u64], n: u64) -> u64
     requires { Ready (mem_of pages rows blocks table) × (n < 2 ^ 63) }
-    ensures { result ≡ rank_in (mem_of pages.entry rows.entry blocks.entry table.entry) n }
+    ensures { result ≡ rank_in (mem_of pages rows blocks table) n }
 {
     match rank::rank(pages, rows, blocks, table, id::signed(n)) {
         Amount::Of(k) => k,
@@ -30,7 +30,7 @@ fn narrow(
     hi: u64,
 ) -> u64
     requires { Ready (mem_of pages rows blocks table) × (lo ≤ hi) × (hi < 2 ^ 63) }
-    ensures { result ≡ narrowed (rank_in (mem_of pages.entry rows.entry blocks.entry table.entry)) target lo hi }
+    ensures { result ≡ narrowed (rank_in (mem_of pages rows blocks table)) target lo hi }
 {
     if hi <= lo {
         return lo;
@@ -45,7 +45,7 @@ fn narrow(
 // The smallest id of 0 or more whose rank is at least the target.
 pub fn boundary(pages: &[u64], rows: &[u32], blocks: &[u32], table: &[u64], target: u64) -> i64
     requires { Ready (mem_of pages rows blocks table) }
-    ensures { result ≡ pos (boundary_by (mem_of pages.entry rows.entry blocks.entry table.entry) target) }
+    ensures { result ≡ pos (boundary_by (mem_of pages rows blocks table) target) }
 {
     id::signed(narrow(pages, rows, blocks, table, target, 0, id::LARGEST))
 }

@@ -1,4 +1,6 @@
 // Dense chunks: bit maps in lent words of 64 bits, one bit for each offset.
+#![tactic(auto)]
+
 pub mod block;
 pub mod list;
 pub mod words;

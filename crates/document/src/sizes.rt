@@ -1,5 +1,5 @@
 // The six numbers of document 01's table of sizes.
-#[derive(Drop)]
+#[derive(Clone, Copy)]
 pub struct Sizes {
     pub s: u64,
     pub m: u64,

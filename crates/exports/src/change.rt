@@ -1,5 +1,5 @@
 // The calls that change a set: answer and memory after are those of the call that each wraps.
-ghost use Rattle.layout.specs.Mem.{mem_of};
+ghost use Rattle.layout.specs.Mem.{mem};
 ghost use Rattle.layout.specs.SetUp.{sizes_of};
 ghost use Rattle.document.specs.declared.answer.Outcome.{Outcome};
 ghost use Rattle.document.specs.declared.answer.Truth.{Truth};
@@ -27,8 +27,8 @@ pub extern "C" fn bp_set_up(
     blocks: &mut [u32],
     table: &mut [u64],
 ) -> DoneAnswer
-    ensures { let x = mem_of pages.entry rows.entry blocks.entry table.entry in
-        let y = mem_of pages.exit rows.exit blocks.exit table.exit in
+    ensures { let x = mem pages.old rows.old blocks.old table.old in
+        let y = mem pages.new rows.new blocks.new table.new in
         Coded outcome_code (λ (o : Outcome). SetsUp (sizes_of s m d v r p) x o y) result }
 {
     answer::of_outcome(setup::set_up(s, m, d, v, r, p, pages, rows, blocks, table))
@@ -43,8 +43,8 @@ pub extern "C" fn bp_set(
     table: &mut [u64],
     id: i64,
 ) -> DoneAnswer
-    ensures { let x = mem_of pages.entry rows.entry blocks.entry table.entry in
-        let y = mem_of pages.exit rows.exit blocks.exit table.exit in
+    ensures { let x = mem pages.old rows.old blocks.old table.old in
+        let y = mem pages.new rows.new blocks.new table.new in
         Coded outcome_code (λ (a : Outcome). Does x (put id) (that a) y) result }
 {
     answer::of_outcome(insert::set(pages, rows, blocks, table, id))
@@ -59,8 +59,8 @@ pub extern "C" fn bp_set_if_new(
     table: &mut [u64],
     id: i64,
 ) -> TruthAnswer
-    ensures { let x = mem_of pages.entry rows.entry blocks.entry table.entry in
-        let y = mem_of pages.exit rows.exit blocks.exit table.exit in
+    ensures { let x = mem pages.old rows.old blocks.old table.old in
+        let y = mem pages.new rows.new blocks.new table.new in
         Coded truth_code (λ (a : Truth). Does x (insert id) (whether a) y) result }
 {
     answer::of_truth(insert::set_if_new(pages, rows, blocks, table, id))
@@ -75,8 +75,8 @@ pub extern "C" fn bp_set_prepared(
     table: &mut [u64],
     id: i64,
 ) -> TruthAnswer
-    ensures { let x = mem_of pages.entry rows.entry blocks.entry table.entry in
-        let y = mem_of pages.exit rows.exit blocks.exit table.exit in
+    ensures { let x = mem pages.old rows.old blocks.old table.old in
+        let y = mem pages.new rows.new blocks.new table.new in
         Coded truth_code (λ (a : Truth). Does x (prepared id) (whether a) y) result }
 {
     answer::of_truth(insert::set_prepared(pages, rows, blocks, table, id))
@@ -91,8 +91,8 @@ pub extern "C" fn bp_pre_allocate(
     table: &mut [u64],
     max: i64,
 ) -> DoneAnswer
-    ensures { let x = mem_of pages.entry rows.entry blocks.entry table.entry in
-        let y = mem_of pages.exit rows.exit blocks.exit table.exit in
+    ensures { let x = mem pages.old rows.old blocks.old table.old in
+        let y = mem pages.new rows.new blocks.new table.new in
         Coded outcome_code (λ (a : Outcome). Does x (prepare max) (that a) y) result }
 {
     answer::of_outcome(prepare::pre_allocate(pages, rows, blocks, table, max))
@@ -106,8 +106,8 @@ pub extern "C" fn bp_into_ranked(
     blocks: &mut [u32],
     table: &mut [u64],
 ) -> DoneAnswer
-    ensures { let x = mem_of pages.entry rows.entry blocks.entry table.entry in
-        let y = mem_of pages.entry rows.entry blocks.exit table.exit in
+    ensures { let x = mem pages.now rows.now blocks.old table.old in
+        let y = mem pages.now rows.now blocks.new table.new in
         Coded outcome_code (λ (a : Outcome). Does x rank_up (that a) y) result }
 {
     answer::of_outcome(form::into_ranked(pages, rows, blocks, table))
@@ -121,8 +121,8 @@ pub extern "C" fn bp_into_open(
     blocks: &mut [u32],
     table: &mut [u64],
 ) -> DoneAnswer
-    ensures { let x = mem_of pages.entry rows.entry blocks.entry table.entry in
-        let y = mem_of pages.entry rows.entry blocks.exit table.exit in
+    ensures { let x = mem pages.now rows.now blocks.old table.old in
+        let y = mem pages.now rows.now blocks.new table.new in
         Coded outcome_code (λ (a : Outcome). Does x leave (that a) y) result }
 {
     answer::of_outcome(form::into_open(pages, rows, blocks, table))

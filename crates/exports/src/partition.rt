@@ -22,7 +22,7 @@ pub extern "C" fn bp_plan(
     slots: u64,
     bounds: &mut [i64],
 ) -> PlanAnswer
-    ensures { let x = mem_of pages.entry rows.entry blocks.entry table.entry in
+    ensures { let x = mem_of pages rows blocks table in
         Coded planning_code (λ (a : Planning). Plans x slots bounds.old a bounds.new) result }
 {
     cut::of_planning(planning::plan(pages, rows, blocks, table, slots, bounds))

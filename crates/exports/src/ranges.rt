@@ -21,7 +21,7 @@ pub extern "C" fn bp_mark_ends_by_range(
     blocks: &[u32],
     table: &[u64],
 ) -> DoneAnswer
-    ensures { let x = mem_of pages.entry rows.entry blocks.entry table.entry in
+    ensures { let x = mem_of pages rows blocks table in
         Coded outcome_code (λ (a : Outcome). EndsByRange x lows.now highs.now marks.old a marks.new) result }
 {
     answer::of_outcome(ends::mark_ends_by_range(lows, highs, marks, pages, rows, blocks, table))

@@ -1,5 +1,5 @@
 // Union: two sets, the destination's four slices first. Answer and memories after are those of the call that each wraps.
-ghost use Rattle.layout.specs.Mem.{mem_of};
+ghost use Rattle.layout.specs.Mem.{mem, mem_of};
 ghost use Rattle.document.specs.Union.{merge_from, merge};
 ghost use Rattle.document.specs.declared.answer.Outcome.{Outcome};
 ghost use Rattle.contracts.specs.Does.{Joins};
@@ -20,9 +20,9 @@ pub extern "C" fn bp_merge_from(
     sblocks: &[u32],
     stable: &[u64],
 ) -> DoneAnswer
-    ensures { let x = mem_of pages.entry rows.entry blocks.entry table.entry in
-        let y = mem_of spages.entry srows.entry sblocks.entry stable.entry in
-        let u = mem_of pages.exit rows.exit blocks.exit table.exit in
+    ensures { let x = mem pages.old rows.old blocks.old table.old in
+        let y = mem_of spages srows sblocks stable in
+        let u = mem pages.new rows.new blocks.new table.new in
         Coded outcome_code (λ (a : Outcome). Joins x y merge_from a u y) result }
 {
     answer::of_outcome(merging::merge_from(
@@ -42,10 +42,10 @@ pub extern "C" fn bp_merge(
     sblocks: &mut [u32],
     stable: &mut [u64],
 ) -> DoneAnswer
-    ensures { let x = mem_of pages.entry rows.entry blocks.entry table.entry in
-        let y = mem_of spages.entry srows.entry sblocks.entry stable.entry in
-        let u = mem_of pages.exit rows.exit blocks.exit table.exit in
-        let v = mem_of spages.exit srows.exit sblocks.exit stable.exit in
+    ensures { let x = mem pages.old rows.old blocks.old table.old in
+        let y = mem spages.old srows.old sblocks.old stable.old in
+        let u = mem pages.new rows.new blocks.new table.new in
+        let v = mem spages.new srows.new sblocks.new stable.new in
         Coded outcome_code (λ (a : Outcome). Joins x y merge a u v) result }
 {
     answer::of_outcome(merging::merge(pages, rows, blocks, table, spages, srows, sblocks, stable))

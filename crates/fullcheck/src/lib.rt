@@ -1,4 +1,6 @@
 // The full check: whether memory follows the layout.
+#![tactic(auto)]
+
 mod blocks;
 mod counts;
 mod pages;
@@ -19,7 +21,7 @@ use layout_walk::walk;
 // What the walk over the table leaves of the rule. Block counts come first: where they are right, members are read from them, and no word is counted twice.
 fn rest_is(pages: &[u64], rows: &[u32], blocks: &[u32], table: &[u64], h: Sizes) -> bool
     requires { Walked (mem_of pages rows blocks table) h }
-    ensures { result ≡ rest_is h (mem_of pages.entry rows.entry blocks.entry table.entry) }
+    ensures { result ≡ rest_is h (mem_of pages rows blocks table) }
 {
     if !blocks::blocks_are(pages, blocks, table, h) {
         return false;
@@ -31,7 +33,7 @@ fn rest_is(pages: &[u64], rows: &[u32], blocks: &[u32], table: &[u64], h: Sizes)
 
 // Yes exactly when memory follows the layout.
 pub fn check(pages: &[u64], rows: &[u32], blocks: &[u32], table: &[u64]) -> bool
-    ensures { let x = mem_of pages.entry rows.entry blocks.entry table.entry in Answers x check (whether (Is result)) }
+    ensures { let x = mem_of pages rows blocks table in Answers x check (whether (Is result)) }
 {
     if !walk::walk(pages, rows, blocks, table) {
         return false;

@@ -32,7 +32,7 @@ pub fn has(
     o: u64,
 ) -> Truth
     requires { (9 ≤ s) × (s ≤ 25) × (s ≡ (header_at table.now).s) × (c < 2 ^ 62) × (o < 2 ^ s) }
-    ensures { let x = mem_of pages.entry rows.entry blocks.entry table.entry in
+    ensures { let x = mem_of pages rows blocks table in
         result ≡ has_at x o (spot_if x (word_in x.table c)) }
 {
     let Word::Is(w) = word(table, c) else {

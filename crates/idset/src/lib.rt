@@ -1,4 +1,6 @@
 // The calls on a set: set-up, membership.
+#![tactic(auto)]
+
 mod chunk;
 pub mod read;
 pub mod setup;

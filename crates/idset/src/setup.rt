@@ -1,5 +1,5 @@
 // Set-up: lent slices become an empty open set; elements past the sizes stay.
-ghost use Rattle.layout.specs.Mem.{mem_of};
+ghost use Rattle.layout.specs.Mem.{mem};
 ghost use Rattle.layout.specs.SetUp.{sizes_of};
 ghost use Rattle.contracts.specs.Does.{SetsUp};
 
@@ -20,8 +20,8 @@ pub fn set_up(
     blocks: &mut [u32],
     table: &mut [u64],
 ) -> Outcome
-    ensures { let x = mem_of pages.entry rows.entry blocks.entry table.entry in
-        let y = mem_of pages.exit rows.exit blocks.exit table.exit in
+    ensures { let x = mem pages.old rows.old blocks.old table.old in
+        let y = mem pages.new rows.new blocks.new table.new in
         SetsUp (sizes_of s m d v r p) x result y }
 {
     let h = Sizes { s, m, d, v, r, p };

@@ -1,4 +1,6 @@
 // What an insert into an absent or a sparse chunk is to do, found before anything is written. Only what is touched is tested.
+#![tactic(auto)]
+
 pub mod gate;
 
 ghost use Rattle.std.specs.Prelude.{◌≡◌, ◌^◌, ◌<◌};
@@ -18,7 +20,7 @@ use sparse::Place;
 
 // A new sparse chunk: 6 where it needs an overflow entry and none is left, then 7 where no row is free.
 pub fn begin(pages: &[u64], rows: &[u32], blocks: &[u32], table: &[u64], c: u64) -> Plan
-    ensures { let x = mem_of pages.entry rows.entry blocks.entry table.entry in result ≡ start_chunk x c }
+    ensures { let x = mem_of pages rows blocks table in result ≡ start_chunk x c }
 {
     let h = head::read(table);
     if !walk::head_is(h, pages, rows, blocks, table) {
@@ -37,7 +39,7 @@ pub fn begin(pages: &[u64], rows: &[u32], blocks: &[u32], table: &[u64], c: u64)
 
 // A full row r of l members gets one more: 8 where no page is free.
 pub fn turn(pages: &[u64], rows: &[u32], blocks: &[u32], table: &[u64], r: u64, l: usize) -> Plan
-    ensures { let x = mem_of pages.entry rows.entry blocks.entry table.entry in result ≡ turn_dense x r l }
+    ensures { let x = mem_of pages rows blocks table in result ≡ turn_dense x r l }
 {
     let h = head::read(table);
     if !walk::head_is(h, pages, rows, blocks, table) {
@@ -64,7 +66,7 @@ pub fn row(
     l: usize,
 ) -> Plan
     requires { RowReady rows.now r l (header_at table.now) × (o < 2 ^ 32) }
-    ensures { let x = mem_of pages.entry rows.entry blocks.entry table.entry in
+    ensures { let x = mem_of pages rows blocks table in
         result ≡ into_row x r l (spot_in (row_part (head x) x.rows r) l o) }
 {
     let m = head::row_size(table);

@@ -1,6 +1,6 @@
 // The short way of an insert for ids that rise: to the end of a row whose chunk has a direct entry, in an open set.
 ghost use Rattle.std.specs.Prelude.{◌≡◌, true, ◌+◌, ◌^◌, ◌≤◌, ◌<◌, length};
-ghost use Rattle.layout.specs.Mem.{mem_of};
+ghost use Rattle.layout.specs.Mem.{mem};
 ghost use Rattle.layout.specs.Sizes.{header_at};
 ghost use Rattle.calls.specs.Insert.{insert_plan, acted, insert_by};
 ghost use Rattle.insert_ways.specs.Ways.{Next, Appends};
@@ -35,8 +35,8 @@ pub fn into(
     o: u64,
 ) -> bool
     requires { (9 ≤ s) × (s ≤ 25) × (s ≡ (header_at table.old).s) × (c < 2 ^ 62) × (o < 2 ^ s) }
-    ensures { let x = mem_of pages.entry rows.entry blocks.entry table.entry in
-        let y = mem_of pages.entry rows.exit blocks.entry table.exit in
+    ensures { let x = mem pages.now rows.old blocks.now table.old in
+        let y = mem pages.now rows.new blocks.now table.new in
         Appends (acted x c o (insert_plan x c o)) x result y }
 {
     if head::direct(table) <= c {
@@ -57,8 +57,8 @@ pub fn into(
 
 // An id. The first test spares a test for each header word.
 pub fn put(pages: &[u64], rows: &mut [u32], blocks: &[u32], table: &mut [u64], id: i64) -> bool
-    ensures { let x = mem_of pages.entry rows.entry blocks.entry table.entry in
-        let y = mem_of pages.entry rows.exit blocks.entry table.exit in
+    ensures { let x = mem pages.now rows.old blocks.now table.old in
+        let y = mem pages.now rows.new blocks.now table.new in
         Appends (insert_by x id) x result y }
 {
     if table.len() < 16 {

@@ -1,6 +1,6 @@
 // An offset of any chunk: into the part that the chunk's word names. Only a new chunk and a row need a plan.
 ghost use Rattle.std.specs.Prelude.{◌≡◌, ℕ, ◌^◌, ◌≤◌, ◌<◌};
-ghost use Rattle.layout.specs.Mem.{mem_of};
+ghost use Rattle.layout.specs.Mem.{mem};
 ghost use Rattle.layout.specs.Sizes.{header_at};
 ghost use Rattle.layout.specs.Places.{decoded};
 ghost use Rattle.layout.specs.declared.place.Place.TheVariants.{Sparse};
@@ -34,8 +34,8 @@ pub fn put(
     o: u64,
 ) -> Truth
     requires { (9 ≤ s) × (s ≤ 25) × (s ≡ (header_at table.old).s) × (c < 2 ^ 62) × (o < 2 ^ s) }
-    ensures { let x = mem_of pages.entry rows.entry blocks.entry table.entry in
-        let y = mem_of pages.exit rows.exit blocks.entry table.exit in
+    ensures { let x = mem pages.old rows.old blocks.now table.old in
+        let y = mem pages.new rows.new blocks.now table.new in
         told result y ≡ acted x c o (insert_plan x c o) }
 {
     let Word::Is(w) = find::word_of(table, c) else {
@@ -66,8 +66,8 @@ pub fn put_prepared(
     o: u64,
 ) -> Truth
     requires { (9 ≤ s) × (s ≤ 25) × (s ≡ (header_at table.now).s) × (c < 2 ^ 62) × (o < 2 ^ s) }
-    ensures { let x = mem_of pages.entry rows.entry blocks.entry table.entry in
-        let y = mem_of pages.exit rows.entry blocks.entry table.entry in
+    ensures { let x = mem pages.old rows.now blocks.now table.now in
+        let y = mem pages.new rows.now blocks.now table.now in
         told result y ≡ acted x c o (prepared_plan x c o) }
 {
     let Word::Is(w) = find::word_of(table, c) else {

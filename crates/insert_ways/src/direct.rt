@@ -1,6 +1,6 @@
 // The short way of both inserts, for the chunk that takes most ids: dense, with a direct entry, in an open set. Small enough to be compiled into each call.
 ghost use Rattle.std.specs.Prelude.{◌≡◌, ◌^◌, ◌≤◌, ◌<◌};
-ghost use Rattle.layout.specs.Mem.{mem_of};
+ghost use Rattle.layout.specs.Mem.{mem};
 ghost use Rattle.layout.specs.Sizes.{header_at};
 ghost use Rattle.insert_ways.specs.Ways.{Into, Short};
 
@@ -10,7 +10,7 @@ use layout::{find, head};
 use numbers::{Split, id as ids};
 
 // The call is done, and this is its answer; or nothing is.
-#[derive(Drop)]
+#[derive(Clone, Copy)]
 pub enum Direct {
     Is(bool),
     Elsewhere,
@@ -27,8 +27,8 @@ pub fn into(
     o: u64,
 ) -> Direct
     requires { (9 ≤ s) × (s ≤ 25) × (s ≡ (header_at table.now).s) × (c < 2 ^ 62) × (o < 2 ^ s) }
-    ensures { let x = mem_of pages.entry rows.entry blocks.entry table.entry in
-        let y = mem_of pages.exit rows.entry blocks.entry table.entry in
+    ensures { let x = mem pages.old rows.now blocks.now table.now in
+        let y = mem pages.new rows.now blocks.now table.now in
         Into x c o result y }
 {
     if head::direct(table) <= c {
@@ -45,8 +45,8 @@ pub fn into(
 
 // An id. The first test spares a test for each header word.
 pub fn put(pages: &mut [u64], rows: &[u32], blocks: &[u32], table: &[u64], id: i64) -> Direct
-    ensures { let x = mem_of pages.entry rows.entry blocks.entry table.entry in
-        let y = mem_of pages.exit rows.entry blocks.entry table.entry in
+    ensures { let x = mem pages.old rows.now blocks.now table.now in
+        let y = mem pages.new rows.now blocks.now table.now in
         Short x id result y }
 {
     if table.len() < 16 {

@@ -1,6 +1,6 @@
 // The whole way of an insert: the tests of the header, then the chunk. A function of its own, for every call that tries the short way into a dense chunk first.
 ghost use Rattle.std.specs.Prelude.{◌≡◌};
-ghost use Rattle.layout.specs.Mem.{mem_of};
+ghost use Rattle.layout.specs.Mem.{mem};
 ghost use Rattle.calls.specs.Insert.{told, insert_by};
 
 use crate::{append, chunk};
@@ -11,8 +11,8 @@ use numbers::{Split, id as ids};
 
 // `set_if_new` into any chunk, by the place that its word names.
 fn planned(pages: &mut [u64], rows: &mut [u32], blocks: &[u32], table: &mut [u64], id: i64) -> Truth
-    ensures { let x = mem_of pages.entry rows.entry blocks.entry table.entry in
-        let y = mem_of pages.exit rows.exit blocks.entry table.exit in
+    ensures { let x = mem pages.old rows.old blocks.now table.old in
+        let y = mem pages.new rows.new blocks.now table.new in
         told result y ≡ insert_by x id }
 {
     let n = gate::refusal(table);
@@ -34,8 +34,8 @@ pub fn anywhere(
     table: &mut [u64],
     id: i64,
 ) -> Truth
-    ensures { let x = mem_of pages.entry rows.entry blocks.entry table.entry in
-        let y = mem_of pages.exit rows.exit blocks.entry table.exit in
+    ensures { let x = mem pages.old rows.old blocks.now table.old in
+        let y = mem pages.new rows.new blocks.now table.new in
         told result y ≡ insert_by x id }
 {
     if append::put(pages, rows, blocks, table, id) {

@@ -1,4 +1,6 @@
 // What a plan writes, a function for each slice or two.
+#![tactic(auto)]
+
 ghost use Rattle.std.specs.Prelude.{◌≡◌, List, not, ℕ, ◌+◌, ◌*◌, ◌^◌, ◌≤◌, ◌<◌, length, set, take, drop};
 ghost use Rattle.sparse.specs.Edit.{inserted_at};
 ghost use Rattle.dense.specs.Bits.{is_set, with_bit, with_row};

@@ -1,6 +1,6 @@
 // Inserts: `set_if_new`, `set`, and the prepared insert. Each tries the short way into a dense chunk first.
 ghost use Rattle.std.specs.Prelude.{◌≡◌};
-ghost use Rattle.layout.specs.Mem.{mem_of};
+ghost use Rattle.layout.specs.Mem.{mem};
 ghost use Rattle.calls.specs.Insert.{told, prepared_by};
 ghost use Rattle.document.specs.Insert.{done};
 ghost use Rattle.document.specs.Calls.{insert, put, prepared, whether, that};
@@ -22,8 +22,8 @@ pub fn set_if_new(
     table: &mut [u64],
     id: i64,
 ) -> Truth
-    ensures { let x = mem_of pages.entry rows.entry blocks.entry table.entry in
-        let y = mem_of pages.exit rows.exit blocks.exit table.exit in
+    ensures { let x = mem pages.old rows.old blocks.old table.old in
+        let y = mem pages.new rows.new blocks.new table.new in
         Does x (insert id) (whether result) y }
 {
     match direct::put(pages, rows, blocks, table, id) {
@@ -50,8 +50,8 @@ pub fn set(
     table: &mut [u64],
     id: i64,
 ) -> Outcome
-    ensures { let x = mem_of pages.entry rows.entry blocks.entry table.entry in
-        let y = mem_of pages.exit rows.exit blocks.exit table.exit in
+    ensures { let x = mem pages.old rows.old blocks.old table.old in
+        let y = mem pages.new rows.new blocks.new table.new in
         Does x (put id) (that result) y }
 {
     match direct::put(pages, rows, blocks, table, id) {
@@ -62,8 +62,8 @@ pub fn set(
 
 // The whole way of the prepared insert.
 fn prepared(pages: &mut [u64], rows: &[u32], blocks: &[u32], table: &[u64], id: i64) -> Truth
-    ensures { let x = mem_of pages.entry rows.entry blocks.entry table.entry in
-        let y = mem_of pages.exit rows.entry blocks.entry table.entry in
+    ensures { let x = mem pages.old rows.now blocks.now table.now in
+        let y = mem pages.new rows.now blocks.now table.now in
         told result y ≡ prepared_by x id }
 {
     let n = gate::refusal(table);
@@ -85,8 +85,8 @@ pub fn set_prepared(
     table: &mut [u64],
     id: i64,
 ) -> Truth
-    ensures { let x = mem_of pages.entry rows.entry blocks.entry table.entry in
-        let y = mem_of pages.exit rows.exit blocks.exit table.exit in
+    ensures { let x = mem pages.old rows.old blocks.old table.old in
+        let y = mem pages.new rows.new blocks.new table.new in
         Does x (prepared id) (whether result) y }
 {
     match direct::put(pages, rows, blocks, table, id) {

@@ -1,6 +1,6 @@
 // The input, part by part: each id goes into the set as its line ends.
 ghost use Rattle.std.specs.Prelude.{◌≡◌};
-ghost use Rattle.layout.specs.Mem.{mem_of};
+ghost use Rattle.layout.specs.Mem.{mem};
 ghost use Rattle.layout.specs.SetUp.{set_up_by};
 ghost use Rattle.program.specs.Turns.{run};
 ghost use Rattle.program.specs.Reader.{fed, perform, feed, finished};
@@ -13,8 +13,8 @@ use program::{Act, Ended, Input};
 
 // Before the first byte: an empty set of the program's sizes.
 pub fn begin(pages: &mut [u64], rows: &mut [u32], blocks: &mut [u32], table: &mut [u64]) -> Input
-    ensures { let x = mem_of pages.entry rows.entry blocks.entry table.entry in
-        let y = mem_of pages.exit rows.exit blocks.exit table.exit in
+    ensures { let x = mem pages.old rows.old blocks.old table.old in
+        let y = mem pages.new rows.new blocks.new table.new in
         fed result y ≡ started (set_up_by sizes x) }
 {
     match setup::set_up(12, 64, 16, 16, 32, 16, pages, rows, blocks, table) {
@@ -31,8 +31,8 @@ fn perform(
     table: &mut [u64],
     a: Act,
 ) -> Input
-    ensures { let x = mem_of pages.entry rows.entry blocks.entry table.entry in
-        let y = mem_of pages.exit rows.exit blocks.exit table.exit in
+    ensures { let x = mem pages.old rows.old blocks.old table.old in
+        let y = mem pages.new rows.new blocks.new table.new in
         fed result y ≡ perform put_by x a }
 {
     match a {
@@ -52,8 +52,8 @@ pub fn take(
     i: Input,
     part: &[u8],
 ) -> Input
-    ensures { let x = mem_of pages.entry rows.entry blocks.entry table.entry in
-        let y = mem_of pages.exit rows.exit blocks.exit table.exit in
+    ensures { let x = mem pages.old rows.old blocks.old table.old in
+        let y = mem pages.new rows.new blocks.new table.new in
         fed result y ≡ feed put_by (fed i x) part.now }
 {
     let mut at = i;
@@ -73,8 +73,8 @@ pub fn end(
     table: &mut [u64],
     i: Input,
 ) -> Ended
-    ensures { let x = mem_of pages.entry rows.entry blocks.entry table.entry in
-        let y = mem_of pages.exit rows.exit blocks.exit table.exit in
+    ensures { let x = mem pages.old rows.old blocks.old table.old in
+        let y = mem pages.new rows.new blocks.new table.new in
         run result y ≡ finished put_by (fed i x) }
 {
     program::settle(perform(pages, rows, blocks, table, program::no_byte(i)))

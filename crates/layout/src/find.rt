@@ -10,14 +10,14 @@ use document::sizes::Sizes;
 use numbers::{element, power};
 
 // A chunk's word, 0 where it is absent, or a table that is too short to say.
-#[derive(Drop)]
+#[derive(Clone, Copy)]
 pub enum Word {
     Is(u64),
     Bad,
 }
 
 // A place's part of its pool: where it starts, how long it is, a row's members; or a part that is not inside the pool.
-#[derive(Drop)]
+#[derive(Clone, Copy)]
 pub enum Spot {
     Nowhere,
     Row(usize, usize, usize),

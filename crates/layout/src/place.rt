@@ -3,7 +3,7 @@ ghost use Rattle.std.specs.Prelude.{◌≡◌, ◌≤◌};
 ghost use Rattle.layout.specs.Places.{decoded, encoded, has_row, has_page};
 ghost use Rattle.layout.specs.declared.place.Place.TheVariants.{Sparse, Dense};
 
-#[derive(Drop)]
+#[derive(Clone, Copy)]
 pub enum Place {
     Absent,
     Sparse(u64, u64),

@@ -5,7 +5,7 @@ ghost use Rattle.layout.specs.Seat.{over_seat, overflow_seat, seat_in};
 use crate::{find, head};
 
 // A chunk's word and the members of the chunks before it, or a table that is too short to say.
-#[derive(Drop)]
+#[derive(Clone, Copy)]
 pub enum Seat {
     At(u64, u64),
     Bad,

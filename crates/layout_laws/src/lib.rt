@@ -1,1 +1,2 @@
 // No code: the laws of the layout.
+#![tactic(auto)]

@@ -95,7 +95,7 @@ pub fn place_is(table: &[u64], h: Sizes, e: u64) -> bool
 }
 
 // What one pass over the entries has seen.
-#[derive(Drop)]
+#[derive(Clone, Copy)]
 pub struct Seen {
     // their places are good
     pub ok: bool,
@@ -164,7 +164,7 @@ pub fn ranks_rise(table: &[u64], rise: bool, prefix: u64) -> bool
 
 // The sizes are allowed, the slices long enough, the mode is known and the overflow entries in use fit.
 pub fn head_is(h: Sizes, pages: &[u64], rows: &[u32], blocks: &[u32], table: &[u64]) -> bool
-    ensures { result ≡ head_is h (mem_of pages.entry rows.entry blocks.entry table.entry) }
+    ensures { result ≡ head_is h (mem_of pages rows blocks table) }
 {
     if !head::in_range(h) {
         return false;
@@ -194,7 +194,7 @@ pub fn table_is(table: &[u64], h: Sizes) -> bool
 
 // After it nothing of the table can be found wrong.
 pub fn walk(pages: &[u64], rows: &[u32], blocks: &[u32], table: &[u64]) -> bool
-    ensures { result ≡ walked (mem_of pages.entry rows.entry blocks.entry table.entry) }
+    ensures { result ≡ walked (mem_of pages rows blocks table) }
 {
     let h = head::read(table);
     if !head_is(h, pages, rows, blocks, table) {

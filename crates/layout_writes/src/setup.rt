@@ -1,6 +1,6 @@
 // Set-up: lent slices become an empty open set; elements past the sizes stay.
 ghost use Rattle.std.specs.Prelude.{◌≡◌, ◌∷◌, cond, ◌≤◌, length, drop};
-ghost use Rattle.layout.specs.Mem.{mem_of};
+ghost use Rattle.layout.specs.Mem.{mem};
 ghost use Rattle.document.specs.Sizes.{InRange};
 ghost use Rattle.layout.specs.Sizes.{Roomy, table_size};
 ghost use Rattle.layout.specs.Tests.{in_range, roomy};
@@ -65,8 +65,8 @@ pub fn make_fresh(
     table: &mut [u64],
 )
     requires { InRange h × Roomy h (length pages.old) (length rows.old) (length blocks.old) (length table.old) }
-    ensures { let x = mem_of pages.entry rows.entry blocks.entry table.entry in
-        mem_of pages.exit rows.exit blocks.exit table.exit ≡ fresh h x }
+    ensures { let x = mem pages.old rows.old blocks.old table.old in
+        mem pages.new rows.new blocks.new table.new ≡ fresh h x }
 {
     zero64(pages, head::page_at(h, h.p) as usize);
     zero32(rows, head::row_at(h, h.r) as usize);

@@ -1,4 +1,6 @@
 // A line of the program's input, read byte by byte: S, or an id. Of a line of any length three numbers are kept.
+#![tactic(auto)]
+
 pub mod signs;
 pub mod words;
 
@@ -9,7 +11,7 @@ ghost use Rattle.lines.specs.declared.Line.TheVariants.{Empty};
 use numbers::id as ids;
 
 // What is kept of a line so far: whether it has a minus, how many digits, and their number.
-#[derive(Drop)]
+#[derive(Clone, Copy)]
 pub enum Line {
     Empty,
     Digits(bool, u64, u64),
@@ -17,14 +19,14 @@ pub enum Line {
 }
 
 // What a whole line says as S.
-#[derive(Drop)]
+#[derive(Clone, Copy)]
 pub enum Number {
     Of(u64),
     Bad,
 }
 
 // What a whole line says as an id.
-#[derive(Drop)]
+#[derive(Clone, Copy)]
 pub enum Id {
     Of(i64),
     Bad,

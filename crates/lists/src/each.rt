@@ -35,7 +35,7 @@ fn far_has(
     o: u64,
 ) -> Truth
     requires { Judged (mem_of pages rows blocks table) h × (c < 2 ^ 62) × (o < 2 ^ h.s) }
-    ensures { let x = mem_of pages.entry rows.entry blocks.entry table.entry in
+    ensures { let x = mem_of pages rows blocks table in
         result ≡ has_at x o (spot_by x (word_of (head x) x.table c)) }
 {
     let q = spot::far(pages, rows, blocks, table, h, c);
@@ -44,7 +44,7 @@ fn far_has(
 
 pub fn got(pages: &[u64], rows: &[u32], blocks: &[u32], table: &[u64], h: Sizes, id: i64) -> u8
     requires { Judged (mem_of pages rows blocks table) h }
-    ensures { result ≡ one_by (mem_of pages.entry rows.entry blocks.entry table.entry) get_all id }
+    ensures { result ≡ one_by (mem_of pages rows blocks table) get_all id }
 {
     let Split::At(c, o) = ids::split(id, h.s) else {
         return 0;
@@ -69,7 +69,7 @@ fn placed(
     o: u64,
 ) -> Amount
     requires { Judged (mem_of pages rows blocks table) h × (c < h.d) × (o < 2 ^ h.s) }
-    ensures { let x = mem_of pages.entry rows.entry blocks.entry table.entry in
+    ensures { let x = mem_of pages rows blocks table in
         result ≡ rank_seat x o (seat_in x.table c) }
 {
     let q = spot::of_chunk(pages, rows, blocks, table, h, c);
@@ -92,7 +92,7 @@ fn rank_in(
 ) -> u64
     requires { let x = mem_of pages rows blocks table in
         Judged x h × (ranked x ≡ true) × (At c o ≡ split_of h.s id) × (c < 2 ^ 62) }
-    ensures { result ≡ one_by (mem_of pages.entry rows.entry blocks.entry table.entry) rank_all id }
+    ensures { result ≡ one_by (mem_of pages rows blocks table) rank_all id }
 {
     if h.d <= c {
         return number::of_amount(rank::rank(pages, rows, blocks, table, id));
@@ -102,7 +102,7 @@ fn rank_in(
 
 pub fn rank_of(pages: &[u64], rows: &[u32], blocks: &[u32], table: &[u64], h: Sizes, id: i64) -> u64
     requires { let x = mem_of pages rows blocks table in Judged x h × (ranked x ≡ true) }
-    ensures { result ≡ one_by (mem_of pages.entry rows.entry blocks.entry table.entry) rank_all id }
+    ensures { result ≡ one_by (mem_of pages rows blocks table) rank_all id }
 {
     let Split::At(c, o) = ids::split(id, h.s) else {
         return 0;
@@ -123,7 +123,7 @@ fn there(
 ) -> u8
     requires { let x = mem_of pages rows blocks table in
         Judged x h × (At c o ≡ split_of h.s id) × (c < 2 ^ 62) }
-    ensures { result ≡ one_by (mem_of pages.entry rows.entry blocks.entry table.entry) get_all id }
+    ensures { result ≡ one_by (mem_of pages rows blocks table) get_all id }
 {
     if h.d <= c {
         return number::of_truth(far_has(pages, rows, blocks, table, h, c, o));
@@ -135,7 +135,7 @@ fn there(
 // The rank of a member: is it there, and then where, by the single call: with two callers `rank_in` would be compiled into neither loop.
 pub fn rank_if(pages: &[u64], rows: &[u32], blocks: &[u32], table: &[u64], h: Sizes, id: i64) -> u64
     requires { let x = mem_of pages rows blocks table in Judged x h × (ranked x ≡ true) }
-    ensures { result ≡ one_by (mem_of pages.entry rows.entry blocks.entry table.entry) rank_if_all id }
+    ensures { result ≡ one_by (mem_of pages rows blocks table) rank_if_all id }
 {
     let Split::At(c, o) = ids::split(id, h.s) else {
         return NO_RANK;

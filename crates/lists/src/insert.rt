@@ -1,6 +1,6 @@
 // Inserts of a list: the single ones in turn. An answer says how far it came, so what was taken before a refusal stays taken.
 ghost use Rattle.document.specs.Calls.{insert, whether};
-ghost use Rattle.layout.specs.Mem.{mem_of};
+ghost use Rattle.layout.specs.Mem.{mem};
 ghost use Rattle.contracts.specs.Does.{Does};
 ghost use Rattle.lists.specs.Inserts.{InsertsAll};
 
@@ -10,7 +10,7 @@ use insert_ways::{direct, whole};
 
 // How many ids were taken, and how many of them were new; 0, or the number that refused the next one.
 #[repr(C)]
-#[derive(Drop)]
+#[derive(Clone, Copy)]
 pub struct Inserted {
     pub taken: u64,
     pub fresh: u64,
@@ -19,8 +19,8 @@ pub struct Inserted {
 
 // One id, as `set_if_new` does it. The short way stands here too, so that it is compiled into the loop.
 fn one(pages: &mut [u64], rows: &mut [u32], blocks: &mut [u32], table: &mut [u64], id: i64) -> Truth
-    ensures { let x = mem_of pages.entry rows.entry blocks.entry table.entry in
-        let y = mem_of pages.exit rows.exit blocks.exit table.exit in
+    ensures { let x = mem pages.old rows.old blocks.old table.old in
+        let y = mem pages.new rows.new blocks.new table.new in
         Does x (insert id) (whether result) y }
 {
     match direct::put(pages, rows, blocks, table, id) {
@@ -37,8 +37,8 @@ pub fn insert_all(
     blocks: &mut [u32],
     table: &mut [u64],
 ) -> Inserted
-    ensures { let x = mem_of pages.entry rows.entry blocks.entry table.entry in
-        let y = mem_of pages.exit rows.exit blocks.exit table.exit in
+    ensures { let x = mem pages.old rows.old blocks.old table.old in
+        let y = mem pages.new rows.new blocks.new table.new in
         InsertsAll x ids.now result y }
 {
     let mut taken: usize = 0;

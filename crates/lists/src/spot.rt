@@ -15,7 +15,7 @@ use numbers::power;
 // A chunk past the direct entries: by the short test.
 pub fn far(pages: &[u64], rows: &[u32], blocks: &[u32], table: &[u64], h: Sizes, c: u64) -> Spot
     requires { Judged (mem_of pages rows blocks table) h × (c < 2 ^ 62) }
-    ensures { let x = mem_of pages.entry rows.entry blocks.entry table.entry in
+    ensures { let x = mem_of pages rows blocks table in
         result ≡ spot_by x (word_of (head x) x.table c) }
 {
     match find::word_of(table, c) {
@@ -34,7 +34,7 @@ pub fn of_chunk(
     c: u64,
 ) -> Spot
     requires { Judged (mem_of pages rows blocks table) h × (c < h.d) }
-    ensures { let x = mem_of pages.entry rows.entry blocks.entry table.entry in
+    ensures { let x = mem_of pages rows blocks table in
         result ≡ spot_by x (word_of (head x) x.table c) }
 {
     match entry::place_at(table, h, c) {

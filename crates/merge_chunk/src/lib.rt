@@ -1,4 +1,6 @@
 // One chunk's turn: what is written where the union of the chunk is dense, and where it is sparse.
+#![tactic(auto)]
+
 ghost use Rattle.std.specs.Prelude.{◌≡◌, List, true, ℕ, ◌*◌, ◌<◌, length};
 ghost use Rattle.layout.specs.Mem.{mem};
 ghost use Rattle.layout.specs.Sizes.{header_at};

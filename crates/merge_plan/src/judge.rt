@@ -15,7 +15,7 @@ use layout_walk::owners;
 use numbers::order;
 
 // How the map grows: overflow entries, rows, rows that are set free, pages.
-#[derive(Drop)]
+#[derive(Clone, Copy)]
 pub struct Growth {
     pub entries: u64,
     pub rows: u64,

@@ -42,8 +42,8 @@ pub fn union_plan(
     stable: &[u64],
     both: bool,
 ) -> Outcome
-    ensures { let x = mem_of pages.entry rows.entry blocks.entry table.entry in
-        let y = mem_of spages.entry srows.entry sblocks.entry stable.entry in
+    ensures { let x = mem_of pages rows blocks table in
+        let y = mem_of spages srows sblocks stable in
         result ≡ union_plan x y (cond both merge merge_from) }
 {
     if !walk::walk(pages, rows, blocks, table) {

@@ -1,3 +1,5 @@
 // Slots of the destination with slots of the source: rows and pages, copied or united.
+#![tactic(auto)]
+
 pub mod page;
 pub mod row;

@@ -1,8 +1,10 @@
 // Union: a source's members into a destination. Judged by a crate that only reads, then written in two passes over the source's entries.
+#![tactic(auto)]
+
 mod pass;
 
 ghost use Rattle.document.specs.Union.{merge_from, merge};
-ghost use Rattle.layout.specs.Mem.{mem_of};
+ghost use Rattle.layout.specs.Mem.{mem, mem_of};
 ghost use Rattle.contracts.specs.Does.{Joins};
 
 use document::answer::Outcome;
@@ -21,9 +23,9 @@ pub fn merge_from(
     sblocks: &[u32],
     stable: &[u64],
 ) -> Outcome
-    ensures { let x = mem_of pages.entry rows.entry blocks.entry table.entry in
-        let y = mem_of spages.entry srows.entry sblocks.entry stable.entry in
-        let u = mem_of pages.exit rows.exit blocks.exit table.exit in
+    ensures { let x = mem pages.old rows.old blocks.old table.old in
+        let y = mem_of spages srows sblocks stable in
+        let u = mem pages.new rows.new blocks.new table.new in
         Joins x y merge_from result u y }
 {
     match plan::union_plan(
@@ -48,10 +50,10 @@ pub fn merge(
     sblocks: &mut [u32],
     stable: &mut [u64],
 ) -> Outcome
-    ensures { let x = mem_of pages.entry rows.entry blocks.entry table.entry in
-        let y = mem_of spages.entry srows.entry sblocks.entry stable.entry in
-        let u = mem_of pages.exit rows.exit blocks.exit table.exit in
-        let v = mem_of spages.exit srows.exit sblocks.exit stable.exit in
+    ensures { let x = mem pages.old rows.old blocks.old table.old in
+        let y = mem spages.old srows.old sblocks.old stable.old in
+        let u = mem pages.new rows.new blocks.new table.new in
+        let v = mem spages.new srows.new sblocks.new stable.new in
         Joins x y merge result u v }
 {
     match plan::union_plan(

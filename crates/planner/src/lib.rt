@@ -1,6 +1,8 @@
 // What the program says once its input has ended: a plan of the set, or the first fault met.
+#![tactic(auto)]
+
 ghost use Rattle.std.specs.Prelude.{◌≡◌};
-ghost use Rattle.layout.specs.Mem.{mem_of};
+ghost use Rattle.layout.specs.Mem.{mem};
 ghost use Rattle.ranks.specs.Form.{rank_up_by};
 ghost use Rattle.program.specs.Reader.{fed, finished};
 ghost use Rattle.intake.specs.Puts.{put_by};
@@ -32,8 +34,8 @@ fn plan(
     s: u64,
     bounds: &mut [i64],
 ) -> Said
-    ensures { let x = mem_of pages.entry rows.entry blocks.entry table.entry in
-        let y = mem_of pages.entry rows.entry blocks.exit table.exit in
+    ensures { let x = mem pages.now rows.now blocks.old table.old in
+        let y = mem pages.now rows.now blocks.new table.new in
         spoken result y bounds.new ≡ plan_said (rank_up_by x) s bounds.old }
 {
     if let Outcome::Refused(c) = form::into_ranked(pages, rows, blocks, table) {
@@ -51,8 +53,8 @@ pub fn tell(
     i: Input,
     bounds: &mut [i64],
 ) -> Said
-    ensures { let x = mem_of pages.entry rows.entry blocks.entry table.entry in
-        let y = mem_of pages.exit rows.exit blocks.exit table.exit in
+    ensures { let x = mem pages.old rows.old blocks.old table.old in
+        let y = mem pages.new rows.new blocks.new table.new in
         spoken result y bounds.new ≡ run_said (finished put_by (fed i x)) bounds.old }
 {
     match input::end(pages, rows, blocks, table, i) {

@@ -1,8 +1,10 @@
 // Preparation: every chunk up to a maximum becomes dense. A plan that only reads, then a loop over chunk ids that writes.
+#![tactic(auto)]
+
 mod plan;
 mod write;
 
-ghost use Rattle.layout.specs.Mem.{mem_of};
+ghost use Rattle.layout.specs.Mem.{mem};
 ghost use Rattle.document.specs.Calls.{prepare, that};
 ghost use Rattle.contracts.specs.Does.{Does};
 
@@ -17,8 +19,8 @@ pub fn pre_allocate(
     table: &mut [u64],
     max_id: i64,
 ) -> Outcome
-    ensures { let x = mem_of pages.entry rows.entry blocks.entry table.entry in
-        let y = mem_of pages.exit rows.exit blocks.exit table.exit in
+    ensures { let x = mem pages.old rows.old blocks.old table.old in
+        let y = mem pages.new rows.new blocks.new table.new in
         Does x (prepare max_id) (that result) y }
 {
     match plan::plan_for(pages, rows, blocks, table, max_id) {

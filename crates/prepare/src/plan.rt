@@ -15,7 +15,7 @@ use layout_walk::walk;
 use numbers::{Natural, id as ids, order};
 
 // A refusal, nothing for a negative maximum, or chunks 0 to c to make dense.
-#[derive(Drop)]
+#[derive(Clone, Copy)]
 pub enum Preparation {
     Refuse(u64),
     Nothing,
@@ -77,7 +77,7 @@ pub fn plan_for(
     table: &[u64],
     max_id: i64,
 ) -> Preparation
-    ensures { result ≡ plan_prepare (mem_of pages.entry rows.entry blocks.entry table.entry) max_id }
+    ensures { result ≡ plan_prepare (mem_of pages rows blocks table) max_id }
 {
     if !walk::walk(pages, rows, blocks, table) {
         return Preparation::Refuse(refusal::NOT_LAID_OUT);

@@ -1,4 +1,6 @@
 // The program's input, taken byte by byte: S on line 1, an id on every other line. There is no set here: what comes next is said, and the caller does it.
+#![tactic(auto)]
+
 ghost use Rattle.std.specs.Prelude.{◌≡◌};
 ghost use Rattle.lines.specs.Reader.{size_in, id_in};
 ghost use Rattle.program.specs.Input.{following};
@@ -9,7 +11,7 @@ use document::plan::Plan;
 use lines::{Id, Line, Number};
 
 // How far the input is read: in line 1; in line n, where S is s; or to the first fault, a bad line or a refusal.
-#[derive(Drop)]
+#[derive(Clone, Copy)]
 pub enum Input {
     First(Line),
     Next(Line, u64, u64),
@@ -18,14 +20,14 @@ pub enum Input {
 }
 
 // What comes next: go on, or insert the id of line n.
-#[derive(Drop)]
+#[derive(Clone, Copy)]
 pub enum Act {
     Go(Input),
     Insert(i64, u64, u64),
 }
 
 // All of the input: whole, with S; or the first fault.
-#[derive(Drop)]
+#[derive(Clone, Copy)]
 pub enum Ended {
     Whole(u64),
     Bad(u64),
@@ -33,7 +35,7 @@ pub enum Ended {
 }
 
 // What the program says: a plan, or the first fault met.
-#[derive(Drop)]
+#[derive(Clone, Copy)]
 pub enum Said {
     Plan(Plan),
     Bad(u64),

@@ -28,7 +28,7 @@ pub fn mark_ends_by_range(
     blocks: &[u32],
     table: &[u64],
 ) -> Outcome
-    ensures { let x = mem_of pages.entry rows.entry blocks.entry table.entry in
+    ensures { let x = mem_of pages rows blocks table in
         EndsByRange x lows.now highs.now marks.old result marks.new }
 {
     let a = mark::walked(pages, rows, blocks, table);

@@ -17,7 +17,7 @@ pub fn mark_by_range(
     blocks: &[u32],
     table: &[u64],
 ) -> Outcome
-    ensures { let x = mem_of pages.entry rows.entry blocks.entry table.entry in
+    ensures { let x = mem_of pages rows blocks table in
         MarksByRange x list.old result list.new }
 {
     let a = mark::walked(pages, rows, blocks, table);

@@ -13,7 +13,7 @@ use scan::range;
 
 // 3 where the walk finds the table wrong. After it no range test is refused.
 pub fn walked(pages: &[u64], rows: &[u32], blocks: &[u32], table: &[u64]) -> Outcome
-    ensures { result ≡ range_answer (mem_of pages.entry rows.entry blocks.entry table.entry) }
+    ensures { result ≡ range_answer (mem_of pages rows blocks table) }
 {
     if !walk::walk(pages, rows, blocks, table) {
         return Outcome::Refused(refusal::NOT_LAID_OUT);
@@ -23,7 +23,7 @@ pub fn walked(pages: &[u64], rows: &[u32], blocks: &[u32], table: &[u64]) -> Out
 
 // Whether a member lies in low to high. A refusal is read as no: after the walk there is none.
 pub fn hit(low: i64, high: i64, pages: &[u64], rows: &[u32], blocks: &[u32], table: &[u64]) -> bool
-    ensures { result ≡ hit_by (mem_of pages.entry rows.entry blocks.entry table.entry) low high }
+    ensures { result ≡ hit_by (mem_of pages rows blocks table) low high }
 {
     match range::any_in_range(pages, rows, blocks, table, low, high) {
         Truth::Is(b) => b,

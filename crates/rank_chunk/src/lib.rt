@@ -1,4 +1,6 @@
 // Members of one chunk below offset o, on any memory.
+#![tactic(auto)]
+
 ghost use Rattle.std.specs.Prelude.{◌≡◌, [], ◌+◌, ◌*◌, ◌/◌, ◌^◌, ◌≤◌, ◌<◌, length};
 ghost use Rattle.layout.specs.Mem.{mem, mem_of};
 ghost use Rattle.layout.specs.Sizes.{header_at};
@@ -55,7 +57,7 @@ pub fn below(
     o: u64,
 ) -> Amount
     requires { (9 ≤ s) × (s ≤ 25) × (s ≡ (header_at table.now).s) × (o < 2 ^ s) }
-    ensures { let x = mem_of pages.entry rows.entry blocks.entry table.entry in
+    ensures { let x = mem_of pages rows blocks table in
         (result ≡ below_at x o (spot_by x w)) × Small result }
 {
     below_in(pages, rows, blocks, find::spot_of(pages, rows, table, w), o)

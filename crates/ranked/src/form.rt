@@ -1,6 +1,6 @@
 // `into_ranked`, and leaving the ranked form.
 ghost use Rattle.std.specs.Prelude.{◌≡◌};
-ghost use Rattle.layout.specs.Mem.{mem_of};
+ghost use Rattle.layout.specs.Mem.{mem};
 ghost use Rattle.layout.specs.Tests.{Walked};
 ghost use Rattle.ranks.specs.Form.{to_ranked, to_open};
 ghost use Rattle.document.specs.Calls.{rank_up, leave, that};
@@ -17,9 +17,9 @@ use rank_counts::{blocks, prefixes};
 
 // Counts every block, then every entry.
 fn count_all(h: Sizes, pages: &[u64], rows: &[u32], blocks: &mut [u32], table: &mut [u64])
-    requires { Walked (mem_of pages rows blocks table) h }
-    ensures { let x = mem_of pages.entry rows.entry blocks.entry table.entry in
-        mem_of pages.entry rows.entry blocks.exit table.exit ≡ to_ranked h x }
+    requires { Walked (mem pages.now rows.now blocks.old table.old) h }
+    ensures { let x = mem pages.now rows.now blocks.old table.old in
+        mem pages.now rows.now blocks.new table.new ≡ to_ranked h x }
 {
     blocks::count_pages(h, pages, blocks);
     let n = prefixes::put_prefixes(h, pages, blocks, table);
@@ -28,9 +28,9 @@ fn count_all(h: Sizes, pages: &[u64], rows: &[u32], blocks: &mut [u32], table: &
 
 // Clears what ranking counted.
 fn clear_all(h: Sizes, pages: &[u64], rows: &[u32], blocks: &mut [u32], table: &mut [u64])
-    requires { Walked (mem_of pages rows blocks table) h }
-    ensures { let x = mem_of pages.entry rows.entry blocks.entry table.entry in
-        mem_of pages.entry rows.entry blocks.exit table.exit ≡ to_open h x }
+    requires { Walked (mem pages.now rows.now blocks.old table.old) h }
+    ensures { let x = mem pages.now rows.now blocks.old table.old in
+        mem pages.now rows.now blocks.new table.new ≡ to_open h x }
 {
     setup::zero32(blocks, head::block_at(h, h.p) as usize);
     prefixes::clear_prefixes(h, table);
@@ -39,8 +39,8 @@ fn clear_all(h: Sizes, pages: &[u64], rows: &[u32], blocks: &mut [u32], table: &
 
 // An open set becomes a ranked one.
 pub fn into_ranked(pages: &[u64], rows: &[u32], blocks: &mut [u32], table: &mut [u64]) -> Outcome
-    ensures { let x = mem_of pages.entry rows.entry blocks.entry table.entry in
-        let y = mem_of pages.entry rows.entry blocks.exit table.exit in
+    ensures { let x = mem pages.now rows.now blocks.old table.old in
+        let y = mem pages.now rows.now blocks.new table.new in
         Does x rank_up (that result) y }
 {
     match mode::form_of(pages, rows, blocks, table) {
@@ -55,8 +55,8 @@ pub fn into_ranked(pages: &[u64], rows: &[u32], blocks: &mut [u32], table: &mut 
 
 // A ranked set becomes an open one.
 pub fn into_open(pages: &[u64], rows: &[u32], blocks: &mut [u32], table: &mut [u64]) -> Outcome
-    ensures { let x = mem_of pages.entry rows.entry blocks.entry table.entry in
-        let y = mem_of pages.entry rows.entry blocks.exit table.exit in
+    ensures { let x = mem pages.now rows.now blocks.old table.old in
+        let y = mem pages.now rows.now blocks.new table.new in
         Does x leave (that result) y }
 {
     match mode::form_of(pages, rows, blocks, table) {

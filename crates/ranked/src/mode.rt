@@ -6,7 +6,7 @@ ghost use Rattle.ranked.specs.Modes.{form_in, form_of};
 use layout::head;
 use layout_walk::walk;
 
-#[derive(Drop)]
+#[derive(Clone, Copy)]
 pub enum Form {
     Open,
     Ranked,
@@ -30,7 +30,7 @@ pub fn form_in(table: &[u64]) -> Form
 
 // Ranking and leaving it write to all entries: after the walk nothing can be found wrong.
 pub fn form_of(pages: &[u64], rows: &[u32], blocks: &[u32], table: &[u64]) -> Form
-    ensures { result ≡ form_of (mem_of pages.entry rows.entry blocks.entry table.entry) }
+    ensures { result ≡ form_of (mem_of pages rows blocks table) }
 {
     if !walk::walk(pages, rows, blocks, table) {
         return Form::Bad;

@@ -1,5 +1,7 @@
 // Replays calls: one a line from standard input, one answer a line to standard output (docs/REPLAY.md).
 // Pools go by the letters that `dump` shows: p pages, r rows, b block counts, t table, c boundaries.
+#![tactic(auto)]
+
 mod call;
 mod many;
 mod marks;

@@ -2,7 +2,7 @@
 
 // Where reading stands: of the bytes read those from `at` to before `end` are not used yet, and `n` bytes are kept of a line, 401 standing for too many.
 // `whole`: the line has ended. After a read, an `end` of 0 says that the input has.
-#[derive(Drop)]
+#[derive(Clone, Copy)]
 pub struct Reading {
     at: usize,
     pub end: usize,

@@ -2,7 +2,7 @@
 use codes::answer::{DoneAnswer, NumberAnswer, OptionalAnswer, TruthAnswer};
 
 // kind 0: done, or none. 1: a value; no is 0 and yes is 1. 2: refused, with its number. 3: no call.
-#[derive(Drop)]
+#[derive(Clone, Copy)]
 pub struct Told {
     pub kind: u64,
     pub value: u64,

@@ -1,4 +1,6 @@
 // Sparse rows: sorted lists of u32 offsets in lent slices, or in parts of a pool.
+#![tactic(auto)]
+
 pub mod list;
 
 ghost use Rattle.std.specs.Prelude.{◌≡◌, ◌+◌, ◌*◌, ◌≤◌, ◌<◌, length};
@@ -7,7 +9,7 @@ ghost use Rattle.sparse.specs.Edit.{inserted_at, cleared, copied};
 ghost use Rattle.sparse.specs.Union.{merged, union, on_front};
 
 // Where an offset stands, or where it would.
-#[derive(Drop)]
+#[derive(Clone, Copy)]
 pub enum Place {
     Found(usize),
     Free(usize),
@@ -16,7 +18,7 @@ pub enum Place {
 // ---- searching
 
 // What is left of a search: n places from lo on.
-#[derive(Drop)]
+#[derive(Clone, Copy)]
 struct Left {
     lo: usize,
     n: usize,

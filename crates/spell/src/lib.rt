@@ -1,4 +1,6 @@
 // Text behind text in a lent buffer: bytes, and numbers by their decimal digits.
+#![tactic(auto)]
+
 ghost use Rattle.std.specs.Prelude.{◌+◌, ◌≤◌, length};
 ghost use Rattle.spell.specs.Spell.{decimal, Appends};
 

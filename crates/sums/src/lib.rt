@@ -1,1 +1,2 @@
 // No code: counting, plain sets of ids, ranks and cuts.
+#![tactic(auto)]

@@ -1,4 +1,6 @@
 // What the program writes: the plan, line by line, or the one line of a fault. Each line goes into a lent buffer that holds the longest.
+#![tactic(auto)]
+
 mod part;
 
 ghost use Rattle.std.specs.Prelude.{◌≡◌, ◌+◌, ◌≤◌, length, take};

@@ -1,0 +1,11 @@
+-- Invariant: the sum is the count of bits below word i. The last word gives its digits below the offset.
+use mathlib.Core.Path.{◌≡◌}
+use Prim.Native.Nat.{◌-◌, ◌*◌, ◌≤◌}
+use Rattle.dense.specs.Bits.{bits_to}
+use Rattle.dense.proofs.block.rank_within.Given as goal
+
+abbrev pub invariant-loop-i : goal.invariant-loop-i
+invariant-loop-i l = (l.i ≤ l.last) × (l.n ≡ bits_to l.block (64 * l.i))
+
+abbrev pub decreases-loop-i : goal.decreases-loop-i
+decreases-loop-i l = l.last - l.i

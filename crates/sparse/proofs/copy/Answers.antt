@@ -1,0 +1,17 @@
+use native.Mathlib.Omega.{arith}
+use borrow.Author.Rules.{rules}
+use Prim.Native.Nat.{◌-◌}
+use mathlib.Core.Path.{refl}
+use lib.ListN.{length-set}
+use Rattle.sparse.proofs.Edits.{copied_none, copied_more, copied_end}
+use Rattle.sparse.proofs.copy.Goals as goal
+
+pub loop-i-init : goal.loop-i-init
+loop-i-init c = (search rules, refl, copied_none _ _)
+
+pub loop-i-preserved : goal.loop-i-preserved
+loop-i-preserved c =
+    let l = c.loop-i in (search rules, simp length-set l.invariant.1, copied_more _ _ _ l.i (omega arith) (omega arith) l.invariant.2)
+
+pub returns : goal.returns
+returns c = let l = c.loop-i in copied_end _ _ _ l.i _ l.invariant.2 l.invariant.0 c.loop-i-test.false

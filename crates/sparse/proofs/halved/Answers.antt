@@ -1,0 +1,17 @@
+-- Either half is inside, and gives the same answer.
+use mathlib.Core.Logic.{⊎_elim}
+use native.Mathlib.Omega.{arith}
+use Rattle.sparse.proofs.Halving.{upper_half, lower_half}
+use Rattle.sparse.proofs.halved.Goals as goal
+
+pub returns : goal.returns
+returns c =
+    let i = c.if-row-mid in
+    let l = c.args.left in
+    let h =
+    ⊎_elim
+    (λ w. upper_half c.args.row.now c.args.off l.lo l.n i.lo c.requires.0 w.0.taken w.1)
+    (λ w. lower_half c.args.row.now c.args.off l.lo l.n i.lo c.requires.0 w.0.left w.1)
+    i.branch
+    in
+    (omega arith, omega arith, h.0, h.1)
