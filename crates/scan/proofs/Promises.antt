@@ -9,8 +9,8 @@ use Rattle.contracts.specs.Does.{Answers}
 use Rattle.contracts.proofs.Readings.{answers}
 
 module _ (x : Mem) (lo hi : ℤ) where
-  pub any_in_range : {r : Truth} → r ≡ any_by x lo hi → Answers x (document.any_in_range lo hi) (document.whether r)
-  any_in_range e = answers x (document.any_in_range lo hi) (ap document.whether e)
+  pub any_in_range : {r : Truth} → r ≡ any_by x lo hi → Answers x (document.range_test lo hi) (document.whether r)
+  any_in_range e = answers x (document.range_test lo hi) (ap document.whether e)
 
-  pub any_by_law : (r : Truth) → Answers x (document.any_in_range lo hi) (document.whether r) → r ≡ any_by x lo hi
+  pub any_by_law : (r : Truth) → Answers x (document.range_test lo hi) (document.whether r) → r ≡ any_by x lo hi
   any_by_law r a = let e = a.by in cc

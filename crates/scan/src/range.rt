@@ -1,6 +1,6 @@
 // The range test: entries from the low end's chunk to the high end's, up to the first that doesn't answer no.
 ghost use Rattle.std.specs.Prelude.{◌≡◌, true, ◌-◌, ◌^◌, ◌≤◌, ◌<◌, get_or};
-ghost use Rattle.document.specs.Calls.{any_in_range, whether};
+ghost use Rattle.document.specs.Calls.{range_test, whether};
 ghost use Rattle.layout.specs.Mem.{mem};
 ghost use Rattle.layout.specs.Sizes.{header_at};
 ghost use Rattle.calls.specs.Reading.{spot_by};
@@ -143,7 +143,7 @@ pub fn any_in_range(
     max: i64,
 ) -> Truth
     ensures { let x = mem pages.now rows.now blocks.now table.now in
-        Answers x (any_in_range min max) (whether result) }
+        Answers x (range_test min max) (whether result) }
 {
     if !entries::are(table) {
         return Truth::Refused(refusal::NOT_LAID_OUT);
