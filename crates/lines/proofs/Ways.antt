@@ -16,7 +16,6 @@ use Rattle.lines.specs.Line.{all_digits, value, positive, negative, id_line}
 use Rattle.lines.specs.Reader.{digit_on, next, id_in}
 use Rattle.lines.specs.declared.Line.{Line}
 use Rattle.lines.specs.declared.Line.TheVariants.{Empty, Digits, Bad}
-use Rattle.lines.specs.declared.Id.{Id}
 use Rattle.lines.specs.declared.Id.TheVariants as id
 
 -- ---- one more digit
