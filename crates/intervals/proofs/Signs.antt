@@ -8,7 +8,7 @@ use mir.Val.{of_z, to_z}
 use mir.Facts.{to_z-of_z}
 
 pub read : (z : ℤ) → mag z < 2 ^ 63 → to_z w64 (of_z w64 z) ≡ z
-read z f = to_z-of_z (record { sfits = f })
+read z f = to_z-of_z {w = w64} (record { sfits = f })
 
 pub le_read : (a b : ℤ) → mag a < 2 ^ 63 → mag b < 2 ^ 63 → le_z (to_z w64 (of_z w64 a)) (to_z w64 (of_z w64 b)) ≡ le_z a b
 le_read a b f g = ap₂ le_z (read a f) (read b g)

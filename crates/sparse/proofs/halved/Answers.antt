@@ -10,8 +10,8 @@ returns c =
     let l = c.args.left in
     let h =
     ⊎_elim
-    (λ w. upper_half c.args.row.now c.args.off l.lo l.n i.lo c.requires.0 w.0.taken w.1)
-    (λ w. lower_half c.args.row.now c.args.off l.lo l.n i.lo c.requires.0 w.0.left w.1)
-    i.branch
+    (λ w. upper_half c.args.row.now c.args.off l.lo l.n i.lo c.requires.0 w.if-row-mid.true w.lo-is)
+    (λ w. lower_half c.args.row.now c.args.off l.lo l.n i.lo c.requires.0 w.if-row-mid.false w.lo-is)
+    i.branch-raw
     in
     (omega arith, omega arith, h.0, h.1)

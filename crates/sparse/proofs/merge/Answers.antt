@@ -1,8 +1,3 @@
--- TODO ('helper', 'gone')
--- TODO ('helper', 'step')
-use Rattle.sparse.proofs.merge.Lts
-use Rattle.sparse.proofs.merge.Tie
-use Rattle.sparse.proofs.merge.Reads
 use native.Mathlib.Omega.{arith}
 use Prim.Native.Nat.{◌-◌, ◌≤◌}
 use mathlib.Core.Logic.{◌⊎◌, inl, inr, ⊎_elim}
@@ -10,14 +5,6 @@ use lib.ListN.{length, get_or}
 use borrow.Author.Tests.{ltb-true, ltb-false}
 use Rattle.sparse.proofs.Merges.{merging_start, merging_turn, merging_end_a, merging_end_b, lesser_first, lesser_second, Steps, steps}
 use Rattle.sparse.proofs.merge.Goals as goal
-
--- the loop ends where one list is used up
-gone : (c : Lts.Left-loop Tie.the-claims Reads.Pre Reads.Post goal.the-invariant-loop-i goal.the-decreases-loop-i) → (length c.args.a.now ≤ c.loop-i.i) ⊎ (length c.args.b.now ≤ c.loop-i.j)
-gone c = ⊎_elim (λ w. inr (ltb-false _ _ w.1.left)) (λ w. inl w.left) c.loop-i-test.branch-raw
-
--- how far the two lists move on
-step : (c : Lts.In-loop Tie.the-claims Reads.Pre Reads.Post goal.the-invariant-loop-i goal.the-decreases-loop-i) → Steps (get_or c.args.a.now c.loop-i.i 0) (get_or c.args.b.now c.loop-i.j 0)
-step c = steps _ _
 
 pub loop-i-init : goal.loop-i-init
 loop-i-init c = merging_start _ _ _
@@ -29,21 +16,21 @@ pub bounds-b-j : goal.bounds-b-j
 bounds-b-j c = omega (arith, ltb-true)
 
 pub overflow_add-i : goal.overflow_add-i
-overflow_add-i c = omega (arith, step c.before.before.before.before.before)
+overflow_add-i c = omega (arith, steps (get_or c.args.a.now c.loop-i.i 0) (get_or c.args.b.now c.loop-i.j 0))
 
 pub overflow_add-j : goal.overflow_add-j
-overflow_add-j c = omega (arith, ltb-true, step c.before.before.before.before.before)
+overflow_add-j c = omega (arith, ltb-true, steps (get_or c.args.a.now c.loop-i.i 0) (get_or c.args.b.now c.loop-i.j 0))
 
 pub loop-i-smaller : goal.loop-i-smaller
-loop-i-smaller c = omega (arith, ltb-true, step c.before.before.before.before.before)
+loop-i-smaller c = omega (arith, ltb-true, steps (get_or c.args.a.now c.loop-i.i 0) (get_or c.args.b.now c.loop-i.j 0))
 
 pub loop-i-preserved : goal.loop-i-preserved
 loop-i-preserved c =
-    merging_turn _ _ _ _ _ _ _ c.requires c.loop-i.invariant _ c.loop-i-test.true (ltb-true _ _ c.if-j-b.true)
-    (⊎_elim (λ w. lesser_first _ _ _ w.0.taken w.1) (λ w. lesser_second _ _ _ w.0.left w.1) c.if-x-y.branch-raw)
+    merging_turn _ _ _ _ _ _ _ c.requires c.loop-i.invariant _ c.loop-i-test.true c.if-j-b.true
+    (⊎_elim (λ w. lesser_first _ _ _ w.if-x-y.true w.out-is) (λ w. lesser_second _ _ _ w.if-x-y.false w.out-is) c.if-x-y.branch-raw)
 
 pub returns-then-i-a : goal.returns-then-i-a
-returns-then-i-a c = merging_end_a _ _ _ _ _ _ _ c.requires c.loop-i.invariant (gone c.before.before.before) c.if-i-a.true
+returns-then-i-a c = merging_end_a _ _ _ _ _ _ _ c.requires c.loop-i.invariant (⊎_elim (λ w. inr w.if-j-b.false) (λ w. inl w.loop-i-test.false) c.loop-i-test.branch-raw) c.if-i-a.true
 
 pub returns : goal.returns
-returns c = merging_end_b _ _ _ _ _ _ _ c.requires c.loop-i.invariant (gone c.before.before.before) c.if-i-a.false
+returns c = merging_end_b _ _ _ _ _ _ _ c.requires c.loop-i.invariant (⊎_elim (λ w. inr w.if-j-b.false) (λ w. inl w.loop-i-test.false) c.loop-i-test.branch-raw) c.if-i-a.false

@@ -1,7 +1,3 @@
--- TODO ('helper', 'lowest')
-use Rattle.dense.proofs.list.word.Lts
-use Rattle.dense.proofs.list.word.Tie
-use Rattle.dense.proofs.list.word.Reads
 use Prim.Native.Nat.{◌+◌, ◌^◌, ◌<◌}
 use native.Mathlib.Omega.{arith}
 use lib.Count.{count_trailing_zeros}
@@ -10,10 +6,6 @@ use Rattle.dense.proofs.Lowest.{cleared_less}
 use Rattle.dense.proofs.Listed.{clearing_start, clearing_lt, clearing_turn, clearing_end, clearing_full}
 use Rattle.dense.proofs.list.word.Goals as goal
 
--- the id that a turn writes fits an i64
-lowest : (c : Lts.Then1 Reads.Pre Reads.Post goal.the-invariant-loop-rest goal.the-decreases-loop-rest) → c.args.at + count_trailing_zeros 64 c.loop-rest.rest < 2 ^ 63
-lowest c = clearing_lt _ _ _ _ c.loop-rest.out c.loop-rest.rest c.loop-rest.n c.loop-rest.invariant c.loop-rest-test.true c.requires.1
-
 pub loop-rest-init : goal.loop-rest-init
 loop-rest-init c = clearing_start _ _ _ _ (omega arith) c.requires.0
 
@@ -21,10 +13,10 @@ pub overflow_cast-out : goal.overflow_cast-out
 overflow_cast-out c = trailing_fits _
 
 pub overflow_add-out : goal.overflow_add-out
-overflow_add-out c = let l = lowest c.before in omega arith
+overflow_add-out c = omega (arith, clearing_lt _ _ _ _ c.loop-rest.out c.loop-rest.rest c.loop-rest.n c.loop-rest.invariant c.loop-rest-test.true c.requires.1)
 
 pub overflow_cast-out-in-loop-rest : goal.overflow_cast-out-in-loop-rest
-overflow_cast-out-in-loop-rest c = record { sfits = lowest c.before }
+overflow_cast-out-in-loop-rest c = record { sfits = clearing_lt _ _ _ _ c.loop-rest.out c.loop-rest.rest c.loop-rest.n c.loop-rest.invariant c.loop-rest-test.true c.requires.1 }
 
 pub loop-rest-smaller : goal.loop-rest-smaller
 loop-rest-smaller c = let l = c.loop-rest in omega (arith, cleared_less l.rest (omega arith) l.invariant.fits)
