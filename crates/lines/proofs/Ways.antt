@@ -13,7 +13,7 @@ use mir.Facts.{to_z-of_z, to_z_pos}
 use borrow.Author.Tests.{leb-true, ltb-true, le-leb, lt-leb, lt-ltb, le-ltb, eq-eqb, ne_eqb}
 use Rattle.sums.proofs.Rules.{both}
 use Rattle.lines.specs.Line.{all_digits, value, positive, negative, id_line}
-use Rattle.lines.specs.Reader.{digit_on, next, id_in}
+use Rattle.lines.specs.Reader.{digit_on, next}
 use Rattle.lines.specs.declared.Line.{Line}
 use Rattle.lines.specs.declared.Line.TheVariants.{Empty, Digits, Bad}
 use Rattle.lines.specs.declared.Id.TheVariants as id
