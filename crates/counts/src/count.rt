@@ -1,5 +1,5 @@
 // Counts of members and of chunks, in both modes. The run tests each entry as it comes, and passes over absent ones.
-ghost use Rattle.layout.specs.Mem.{mem_of};
+ghost use Rattle.layout.specs.Mem.{mem};
 ghost use Rattle.document.specs.Calls.{len, is_empty, has_any, chunk_count, whether, many};
 ghost use Rattle.contracts.specs.Does.{Answers};
 
@@ -10,7 +10,7 @@ use layout::entry;
 
 // The members.
 pub fn len(pages: &[u64], rows: &[u32], blocks: &[u32], table: &[u64]) -> Amount
-    ensures { let x = mem_of pages rows blocks table in Answers x len (many result) }
+    ensures { let x = mem pages.now rows.now blocks.now table.now in Answers x len (many result) }
 {
     if !entries::are(table) {
         return Amount::Refused(refusal::NOT_LAID_OUT);
@@ -33,7 +33,7 @@ pub fn len(pages: &[u64], rows: &[u32], blocks: &[u32], table: &[u64]) -> Amount
 
 // Whether there is no member.
 pub fn is_empty(pages: &[u64], rows: &[u32], blocks: &[u32], table: &[u64]) -> Truth
-    ensures { let x = mem_of pages rows blocks table in Answers x is_empty (whether result) }
+    ensures { let x = mem pages.now rows.now blocks.now table.now in Answers x is_empty (whether result) }
 {
     if !entries::are(table) {
         return Truth::Refused(refusal::NOT_LAID_OUT);
@@ -56,7 +56,7 @@ pub fn is_empty(pages: &[u64], rows: &[u32], blocks: &[u32], table: &[u64]) -> T
 
 // Whether there is a chunk, be it empty.
 pub fn has_any(pages: &[u64], rows: &[u32], blocks: &[u32], table: &[u64]) -> Truth
-    ensures { let x = mem_of pages rows blocks table in Answers x has_any (whether result) }
+    ensures { let x = mem pages.now rows.now blocks.now table.now in Answers x has_any (whether result) }
 {
     if !entries::are(table) {
         return Truth::Refused(refusal::NOT_LAID_OUT);
@@ -67,7 +67,7 @@ pub fn has_any(pages: &[u64], rows: &[u32], blocks: &[u32], table: &[u64]) -> Tr
 
 // The chunks, empty ones too.
 pub fn allocated_chunk_count(pages: &[u64], rows: &[u32], blocks: &[u32], table: &[u64]) -> Amount
-    ensures { let x = mem_of pages rows blocks table in Answers x chunk_count (many result) }
+    ensures { let x = mem pages.now rows.now blocks.now table.now in Answers x chunk_count (many result) }
 {
     if !entries::are(table) {
         return Amount::Refused(refusal::NOT_LAID_OUT);

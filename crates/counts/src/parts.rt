@@ -1,6 +1,6 @@
 // The members of the entries one by one.
 ghost use Rattle.std.specs.Prelude.{◌≡◌, true, ◌≤◌, eqb};
-ghost use Rattle.layout.specs.Mem.{mem_of};
+ghost use Rattle.layout.specs.Mem.{mem};
 ghost use Rattle.calls.specs.Counts.{entries_ok, good_at, size_by};
 
 use dense::words;
@@ -23,7 +23,7 @@ pub struct Vacancy {
 // The members of entry e.
 pub fn part_at(pages: &[u64], rows: &[u32], blocks: &[u32], table: &[u64], e: u64) -> Part
     requires { (entries_ok table.now ≡ true) × (e ≤ 327680) }
-    ensures { let x = mem_of pages rows blocks table in
+    ensures { let x = mem pages.now rows.now blocks.now table.now in
         (result.good ≡ good_at x e) × (result.size ≡ size_by x e) }
 {
     match entries::spot_at(pages, rows, blocks, table, e) {
@@ -52,7 +52,7 @@ pub fn part_at(pages: &[u64], rows: &[u32], blocks: &[u32], table: &[u64], e: u6
 // Whether entry e has no member: a page is read up to its first.
 pub fn vacancy_at(pages: &[u64], rows: &[u32], blocks: &[u32], table: &[u64], e: u64) -> Vacancy
     requires { (entries_ok table.now ≡ true) × (e ≤ 327680) }
-    ensures { let x = mem_of pages rows blocks table in
+    ensures { let x = mem pages.now rows.now blocks.now table.now in
         (result.good ≡ good_at x e) × (result.none ≡ eqb (size_by x e) 0) }
 {
     match entries::spot_at(pages, rows, blocks, table, e) {

@@ -1,7 +1,7 @@
 // Planning: boundaries go to a lent slice; total, slots and partitions come back as a record.
 ghost use Rattle.std.specs.Prelude.{◌≡◌, ◌*◌, ◌^◌, ◌<◌};
 ghost use Rattle.sums.specs.Cuts.{size};
-ghost use Rattle.layout.specs.Mem.{mem_of};
+ghost use Rattle.layout.specs.Mem.{mem};
 ghost use Rattle.cuts.specs.Plan.{Ready, bounds_to};
 ghost use Rattle.cuts.specs.Promise.{Plans};
 
@@ -23,8 +23,8 @@ fn fill(
     n: u64,
     bounds: &mut [i64],
 )
-    requires { Ready (mem_of pages rows blocks table) × (n * size slots < 2 ^ 64) }
-    ensures { let x = mem_of pages rows blocks table in
+    requires { Ready (mem pages.now rows.now blocks.now table.now) × (n * size slots < 2 ^ 64) }
+    ensures { let x = mem pages.now rows.now blocks.now table.now in
         bounds.new ≡ bounds_to x slots bounds.old n }
 {
     let size = order::greatest_of(1, slots);
@@ -45,7 +45,7 @@ pub fn plan(
     slots: u64,
     bounds: &mut [i64],
 ) -> Planning
-    ensures { let x = mem_of pages rows blocks table in
+    ensures { let x = mem pages.now rows.now blocks.now table.now in
         Plans x slots bounds.old result bounds.new }
 {
     if !walk::walk(pages, rows, blocks, table) {

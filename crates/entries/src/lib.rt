@@ -4,7 +4,7 @@
 pub mod clip;
 
 ghost use Rattle.std.specs.Prelude.{◌≡◌, ◌≢◌, true, List, ℕ, ◌≤◌, ◌<◌};
-ghost use Rattle.layout.specs.Mem.{mem_of};
+ghost use Rattle.layout.specs.Mem.{mem};
 ghost use Rattle.layout.specs.Sizes.{header_at};
 ghost use Rattle.layout.specs.Entries.{entries, chunk_at, word_at};
 ghost use Rattle.calls.specs.Reading.{spot_by};
@@ -74,7 +74,7 @@ pub fn chunk(table: &[u64], e: u64) -> u64
 // The part that entry e names.
 pub fn spot_at(pages: &[u64], rows: &[u32], blocks: &[u32], table: &[u64], e: u64) -> Spot
     requires { (entries_ok table.now ≡ true) × (e ≤ 327680) }
-    ensures { let x = mem_of pages rows blocks table in
+    ensures { let x = mem pages.now rows.now blocks.now table.now in
         result ≡ spot_by x (word_by x e) }
 {
     find::spot_of(pages, rows, table, entry::word_by(table, e))

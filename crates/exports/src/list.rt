@@ -1,5 +1,5 @@
 // Calls over a list of ids, the set's four slices last. Answers, or memory after, are those of the call that each wraps.
-ghost use Rattle.layout.specs.Mem.{mem, mem_of};
+ghost use Rattle.layout.specs.Mem.{mem};
 ghost use Rattle.document.specs.declared.answer.Outcome.{Outcome};
 ghost use Rattle.lists.specs.Lists.{get_all, rank_all, rank_if_all, AnswersAll};
 ghost use Rattle.lists.specs.Inserts.{InsertsAll};
@@ -20,7 +20,7 @@ pub extern "C" fn bp_get_all(
     blocks: &[u32],
     table: &[u64],
 ) -> DoneAnswer
-    ensures { let x = mem_of pages rows blocks table in
+    ensures { let x = mem pages.now rows.now blocks.now table.now in
         Coded outcome_code (λ (a : Outcome). AnswersAll x get_all ids.now answers.old a answers.new) result }
 {
     answer::of_outcome(read::get_all(ids, answers, pages, rows, blocks, table))
@@ -36,7 +36,7 @@ pub extern "C" fn bp_rank_all(
     blocks: &[u32],
     table: &[u64],
 ) -> DoneAnswer
-    ensures { let x = mem_of pages rows blocks table in
+    ensures { let x = mem pages.now rows.now blocks.now table.now in
         Coded outcome_code (λ (a : Outcome). AnswersAll x rank_all ids.now answers.old a answers.new) result }
 {
     answer::of_outcome(read::rank_all(ids, answers, pages, rows, blocks, table))
@@ -52,7 +52,7 @@ pub extern "C" fn bp_rank_if_set_all(
     blocks: &[u32],
     table: &[u64],
 ) -> DoneAnswer
-    ensures { let x = mem_of pages rows blocks table in
+    ensures { let x = mem pages.now rows.now blocks.now table.now in
         Coded outcome_code (λ (a : Outcome). AnswersAll x rank_if_all ids.now answers.old a answers.new) result }
 {
     answer::of_outcome(read::rank_if_set_all(ids, answers, pages, rows, blocks, table))

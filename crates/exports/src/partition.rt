@@ -1,6 +1,6 @@
 // The plan: boundaries of a ranked set, its partitions, and what lies in them. A plan and an interval come as their numbers.
 ghost use Rattle.std.specs.Prelude.{◌≡◌};
-ghost use Rattle.layout.specs.Mem.{mem_of};
+ghost use Rattle.layout.specs.Mem.{mem};
 ghost use Rattle.document.specs.Spans.{in_partition, ids_answer, ranks_answer, range_meets};
 ghost use Rattle.document.specs.declared.plan.Planning.{Planning};
 ghost use Rattle.cuts.specs.Promise.{Plans};
@@ -22,7 +22,7 @@ pub extern "C" fn bp_plan(
     slots: u64,
     bounds: &mut [i64],
 ) -> PlanAnswer
-    ensures { let x = mem_of pages rows blocks table in
+    ensures { let x = mem pages.now rows.now blocks.now table.now in
         Coded planning_code (λ (a : Planning). Plans x slots bounds.old a bounds.new) result }
 {
     cut::of_planning(planning::plan(pages, rows, blocks, table, slots, bounds))

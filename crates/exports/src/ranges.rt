@@ -1,5 +1,5 @@
 // The range list, as slices of lows, highs and marks of 0 or 1. Answer and marks after are those of the call that each wraps.
-ghost use Rattle.layout.specs.Mem.{mem_of};
+ghost use Rattle.layout.specs.Mem.{mem};
 ghost use Rattle.document.specs.Spans.{ids_answer};
 ghost use Rattle.document.specs.declared.answer.Outcome.{Outcome};
 ghost use Rattle.range_list.specs.Marks.{EndsByRange, EndsByPartition};
@@ -21,7 +21,7 @@ pub extern "C" fn bp_mark_ends_by_range(
     blocks: &[u32],
     table: &[u64],
 ) -> DoneAnswer
-    ensures { let x = mem_of pages rows blocks table in
+    ensures { let x = mem pages.now rows.now blocks.now table.now in
         Coded outcome_code (λ (a : Outcome). EndsByRange x lows.now highs.now marks.old a marks.new) result }
 {
     answer::of_outcome(ends::mark_ends_by_range(lows, highs, marks, pages, rows, blocks, table))

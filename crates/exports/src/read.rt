@@ -1,5 +1,5 @@
 // The calls that only read: each answers the code of what the call that it wraps answers.
-ghost use Rattle.layout.specs.Mem.{mem_of};
+ghost use Rattle.layout.specs.Mem.{mem};
 ghost use Rattle.document.specs.declared.answer.Truth.{Truth};
 ghost use Rattle.document.specs.declared.answer.Truth.TheVariants.{Is};
 ghost use Rattle.document.specs.declared.answer.Amount.{Amount};
@@ -21,7 +21,7 @@ use scan::range;
 // The full check: whether memory follows the layout.
 #[unsafe(no_mangle)]
 pub extern "C" fn bp_check(pages: &[u64], rows: &[u32], blocks: &[u32], table: &[u64]) -> bool
-    ensures { let x = mem_of pages rows blocks table in Answers x check (whether (Is result)) }
+    ensures { let x = mem pages.now rows.now blocks.now table.now in Answers x check (whether (Is result)) }
 {
     fullcheck::check(pages, rows, blocks, table)
 }
@@ -35,7 +35,7 @@ pub extern "C" fn bp_get(
     table: &[u64],
     id: i64,
 ) -> TruthAnswer
-    ensures { let x = mem_of pages rows blocks table in
+    ensures { let x = mem pages.now rows.now blocks.now table.now in
         Coded truth_code (λ (a : Truth). Answers x (get id) (whether a)) result }
 {
     answer::of_truth(read::get(pages, rows, blocks, table, id))
@@ -51,7 +51,7 @@ pub extern "C" fn bp_any_in_range(
     min: i64,
     max: i64,
 ) -> TruthAnswer
-    ensures { let x = mem_of pages rows blocks table in
+    ensures { let x = mem pages.now rows.now blocks.now table.now in
         Coded truth_code (λ (a : Truth). Answers x (range_test min max) (whether a)) result }
 {
     answer::of_truth(range::any_in_range(pages, rows, blocks, table, min, max))
@@ -66,7 +66,7 @@ pub extern "C" fn bp_chunk_of(
     table: &[u64],
     id: i64,
 ) -> OptionalAnswer
-    ensures { let x = mem_of pages rows blocks table in
+    ensures { let x = mem pages.now rows.now blocks.now table.now in
         Coded perhaps_code (λ (a : Perhaps). Answers x (chunk_id id) (maybe a)) result }
 {
     answer::of_perhaps(read::chunk_of(pages, rows, blocks, table, id))
@@ -75,7 +75,7 @@ pub extern "C" fn bp_chunk_of(
 // The members.
 #[unsafe(no_mangle)]
 pub extern "C" fn bp_len(pages: &[u64], rows: &[u32], blocks: &[u32], table: &[u64]) -> NumberAnswer
-    ensures { let x = mem_of pages rows blocks table in
+    ensures { let x = mem pages.now rows.now blocks.now table.now in
         Coded amount_code (λ (a : Amount). Answers x len (many a)) result }
 {
     answer::of_amount(count::len(pages, rows, blocks, table))
@@ -89,7 +89,7 @@ pub extern "C" fn bp_is_empty(
     blocks: &[u32],
     table: &[u64],
 ) -> TruthAnswer
-    ensures { let x = mem_of pages rows blocks table in
+    ensures { let x = mem pages.now rows.now blocks.now table.now in
         Coded truth_code (λ (a : Truth). Answers x is_empty (whether a)) result }
 {
     answer::of_truth(count::is_empty(pages, rows, blocks, table))
@@ -103,7 +103,7 @@ pub extern "C" fn bp_has_any(
     blocks: &[u32],
     table: &[u64],
 ) -> TruthAnswer
-    ensures { let x = mem_of pages rows blocks table in
+    ensures { let x = mem pages.now rows.now blocks.now table.now in
         Coded truth_code (λ (a : Truth). Answers x has_any (whether a)) result }
 {
     answer::of_truth(count::has_any(pages, rows, blocks, table))
@@ -117,7 +117,7 @@ pub extern "C" fn bp_allocated_chunk_count(
     blocks: &[u32],
     table: &[u64],
 ) -> NumberAnswer
-    ensures { let x = mem_of pages rows blocks table in
+    ensures { let x = mem pages.now rows.now blocks.now table.now in
         Coded amount_code (λ (a : Amount). Answers x chunk_count (many a)) result }
 {
     answer::of_amount(count::allocated_chunk_count(pages, rows, blocks, table))
@@ -132,7 +132,7 @@ pub extern "C" fn bp_iter_from(
     table: &[u64],
     start: i64,
 ) -> Listing
-    ensures { let x = mem_of pages rows blocks table in Answers x (iterate start) (listed result) }
+    ensures { let x = mem pages.now rows.now blocks.now table.now in Answers x (iterate start) (listed result) }
 {
     listing::iter_from(pages, rows, blocks, table, start)
 }
@@ -146,7 +146,7 @@ pub extern "C" fn bp_rank(
     table: &[u64],
     id: i64,
 ) -> NumberAnswer
-    ensures { let x = mem_of pages rows blocks table in
+    ensures { let x = mem pages.now rows.now blocks.now table.now in
         Coded amount_code (λ (a : Amount). Answers x (rank_of id) (many a)) result }
 {
     answer::of_amount(rank::rank(pages, rows, blocks, table, id))
@@ -161,7 +161,7 @@ pub extern "C" fn bp_rank_if_set(
     table: &[u64],
     id: i64,
 ) -> OptionalAnswer
-    ensures { let x = mem_of pages rows blocks table in
+    ensures { let x = mem pages.now rows.now blocks.now table.now in
         Coded perhaps_code (λ (a : Perhaps). Answers x (rank_if_set id) (maybe a)) result }
 {
     answer::of_perhaps(rank::rank_if_set(pages, rows, blocks, table, id))
@@ -175,7 +175,7 @@ pub extern "C" fn bp_total_count(
     blocks: &[u32],
     table: &[u64],
 ) -> NumberAnswer
-    ensures { let x = mem_of pages rows blocks table in
+    ensures { let x = mem pages.now rows.now blocks.now table.now in
         Coded amount_code (λ (a : Amount). Answers x total_count (many a)) result }
 {
     answer::of_amount(rank::total_count(pages, rows, blocks, table))

@@ -1,5 +1,5 @@
 // Union: two sets, the destination's four slices first. Answer and memories after are those of the call that each wraps.
-ghost use Rattle.layout.specs.Mem.{mem, mem_of};
+ghost use Rattle.layout.specs.Mem.{mem};
 ghost use Rattle.document.specs.Union.{merge_from, merge};
 ghost use Rattle.document.specs.declared.answer.Outcome.{Outcome};
 ghost use Rattle.contracts.specs.Does.{Joins};
@@ -21,7 +21,7 @@ pub extern "C" fn bp_merge_from(
     stable: &[u64],
 ) -> DoneAnswer
     ensures { let x = mem pages.old rows.old blocks.old table.old in
-        let y = mem_of spages srows sblocks stable in
+        let y = mem spages.now srows.now sblocks.now stable.now in
         let u = mem pages.new rows.new blocks.new table.new in
         Coded outcome_code (λ (a : Outcome). Joins x y merge_from a u y) result }
 {

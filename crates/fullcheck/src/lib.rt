@@ -7,7 +7,7 @@ mod pages;
 mod rows;
 
 ghost use Rattle.std.specs.Prelude.{◌≡◌};
-ghost use Rattle.layout.specs.Mem.{mem_of};
+ghost use Rattle.layout.specs.Mem.{mem};
 ghost use Rattle.layout.specs.Tests.{Walked};
 ghost use Rattle.document.specs.Calls.{check, whether};
 ghost use Rattle.document.specs.declared.answer.Truth.TheVariants.{Is};
@@ -20,8 +20,8 @@ use layout_walk::walk;
 
 // What the walk over the table leaves of the rule. Block counts come first: where they are right, members are read from them, and no word is counted twice.
 fn rest_is(pages: &[u64], rows: &[u32], blocks: &[u32], table: &[u64], h: Sizes) -> bool
-    requires { Walked (mem_of pages rows blocks table) h }
-    ensures { result ≡ rest_is h (mem_of pages rows blocks table) }
+    requires { Walked (mem pages.now rows.now blocks.now table.now) h }
+    ensures { result ≡ rest_is h (mem pages.now rows.now blocks.now table.now) }
 {
     if !blocks::blocks_are(pages, blocks, table, h) {
         return false;
@@ -33,7 +33,7 @@ fn rest_is(pages: &[u64], rows: &[u32], blocks: &[u32], table: &[u64], h: Sizes)
 
 // Yes exactly when memory follows the layout.
 pub fn check(pages: &[u64], rows: &[u32], blocks: &[u32], table: &[u64]) -> bool
-    ensures { let x = mem_of pages rows blocks table in Answers x check (whether (Is result)) }
+    ensures { let x = mem pages.now rows.now blocks.now table.now in Answers x check (whether (Is result)) }
 {
     if !walk::walk(pages, rows, blocks, table) {
         return false;

@@ -1,6 +1,6 @@
 // One chunk: its word, and whether an offset is a member. Only what is touched is tested.
 ghost use Rattle.std.specs.Prelude.{◌≡◌, ◌^◌, ◌≤◌, ◌<◌};
-ghost use Rattle.layout.specs.Mem.{mem_of};
+ghost use Rattle.layout.specs.Mem.{mem};
 ghost use Rattle.layout.specs.Sizes.{header_at};
 ghost use Rattle.layout.specs.Short.{word_in};
 ghost use Rattle.calls.specs.Reading.{spot_if, has_at};
@@ -32,7 +32,7 @@ pub fn has(
     o: u64,
 ) -> Truth
     requires { (9 ≤ s) × (s ≤ 25) × (s ≡ (header_at table.now).s) × (c < 2 ^ 62) × (o < 2 ^ s) }
-    ensures { let x = mem_of pages rows blocks table in
+    ensures { let x = mem pages.now rows.now blocks.now table.now in
         result ≡ has_at x o (spot_if x (word_in x.table c)) }
 {
     let Word::Is(w) = word(table, c) else {

@@ -1,5 +1,5 @@
 // Membership and chunk ids, in both modes.
-ghost use Rattle.layout.specs.Mem.{mem_of};
+ghost use Rattle.layout.specs.Mem.{mem};
 ghost use Rattle.document.specs.Calls.{get, chunk_id, whether, maybe};
 ghost use Rattle.contracts.specs.Does.{Answers};
 
@@ -11,7 +11,7 @@ use numbers::{Natural, Split, id as ids};
 
 // Whether an id is a member. A negative one never is.
 pub fn get(pages: &[u64], rows: &[u32], blocks: &[u32], table: &[u64], id: i64) -> Truth
-    ensures { let x = mem_of pages rows blocks table in Answers x (get id) (whether result) }
+    ensures { let x = mem pages.now rows.now blocks.now table.now in Answers x (get id) (whether result) }
 {
     let s = head::shift(table);
     if !((9 <= s) & (s <= 25)) {
@@ -25,7 +25,7 @@ pub fn get(pages: &[u64], rows: &[u32], blocks: &[u32], table: &[u64], id: i64) 
 
 // The chunk that an id lives in, none for a negative one.
 pub fn chunk_of(pages: &[u64], rows: &[u32], blocks: &[u32], table: &[u64], id: i64) -> Perhaps
-    ensures { let x = mem_of pages rows blocks table in Answers x (chunk_id id) (maybe result) }
+    ensures { let x = mem pages.now rows.now blocks.now table.now in Answers x (chunk_id id) (maybe result) }
 {
     let s = head::shift(table);
     if !((9 <= s) & (s <= 25)) {

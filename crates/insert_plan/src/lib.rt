@@ -5,7 +5,7 @@ pub mod gate;
 
 ghost use Rattle.std.specs.Prelude.{◌≡◌, ◌^◌, ◌<◌};
 ghost use Rattle.sparse.specs.Search.{spot_in};
-ghost use Rattle.layout.specs.Mem.{mem_of};
+ghost use Rattle.layout.specs.Mem.{mem};
 ghost use Rattle.layout.specs.Sizes.{head, header_at};
 ghost use Rattle.layout.specs.Places.{row_part};
 ghost use Rattle.calls.specs.Insert.{start_chunk, turn_dense, into_row};
@@ -20,7 +20,7 @@ use sparse::Place;
 
 // A new sparse chunk: 6 where it needs an overflow entry and none is left, then 7 where no row is free.
 pub fn begin(pages: &[u64], rows: &[u32], blocks: &[u32], table: &[u64], c: u64) -> Plan
-    ensures { let x = mem_of pages rows blocks table in result ≡ start_chunk x c }
+    ensures { let x = mem pages.now rows.now blocks.now table.now in result ≡ start_chunk x c }
 {
     let h = head::read(table);
     if !walk::head_is(h, pages, rows, blocks, table) {
@@ -39,7 +39,7 @@ pub fn begin(pages: &[u64], rows: &[u32], blocks: &[u32], table: &[u64], c: u64)
 
 // A full row r of l members gets one more: 8 where no page is free.
 pub fn turn(pages: &[u64], rows: &[u32], blocks: &[u32], table: &[u64], r: u64, l: usize) -> Plan
-    ensures { let x = mem_of pages rows blocks table in result ≡ turn_dense x r l }
+    ensures { let x = mem pages.now rows.now blocks.now table.now in result ≡ turn_dense x r l }
 {
     let h = head::read(table);
     if !walk::head_is(h, pages, rows, blocks, table) {
@@ -66,7 +66,7 @@ pub fn row(
     l: usize,
 ) -> Plan
     requires { RowReady rows.now r l (header_at table.now) × (o < 2 ^ 32) }
-    ensures { let x = mem_of pages rows blocks table in
+    ensures { let x = mem pages.now rows.now blocks.now table.now in
         result ≡ into_row x r l (spot_in (row_part (head x) x.rows r) l o) }
 {
     let m = head::row_size(table);

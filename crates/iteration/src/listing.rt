@@ -4,7 +4,7 @@ ghost use Rattle.std.proofs.Math.IntN.{suc_ℤ};
 ghost use Rattle.document.specs.Calls.{iterate, listed};
 ghost use Rattle.document.specs.Iteration.{blank, refused_listing};
 ghost use Rattle.document.specs.Sizes.{top, last_chunk};
-ghost use Rattle.layout.specs.Mem.{mem_of};
+ghost use Rattle.layout.specs.Mem.{mem};
 ghost use Rattle.layout.specs.Sizes.{header_at, head};
 ghost use Rattle.calls.specs.Reading.{spot_by};
 ghost use Rattle.calls.specs.Counts.{entries_ok};
@@ -41,7 +41,7 @@ fn fill_at(
 ) -> Step
     requires { (9 ≤ (header_at table.now).s) × ((header_at table.now).s ≤ 25) × (base + 2 ^ (header_at table.now).s ≤ 2 ^ 63)
         × (from < 2 ^ (header_at table.now).s) × (k ≤ length out.old) }
-    ensures { let x = mem_of pages rows blocks table in
+    ensures { let x = mem pages.now rows.now blocks.now table.now in
         filled result out.new ≡ filled_at x base from out.old k (spot_by x w) }
 {
     match find::spot_of(pages, rows, table, w) {
@@ -72,7 +72,7 @@ fn fill_chunk(
     k: usize,
 ) -> Step
     requires { (entries_ok table.now ≡ true) × (c < last_chunk (header_at table.now)) × (k ≤ length out.old) }
-    ensures { let x = mem_of pages rows blocks table in
+    ensures { let x = mem pages.now rows.now blocks.now table.now in
         filled result out.new ≡ filled_at x (c * top (head x)) (clip_low (top (head x)) lo c) out.old k (spot_by x w) }
 {
     let s = head::shift(table);
@@ -93,7 +93,7 @@ fn fill_entry(
     k: usize,
 ) -> Step
     requires { (entries_ok table.now ≡ true) × (e ≤ 327680) × (k ≤ length out.old) }
-    ensures { let x = mem_of pages rows blocks table in
+    ensures { let x = mem pages.now rows.now blocks.now table.now in
         filled result out.new ≡ fill_entry x lo e out.old k }
 {
     let s = head::shift(table);
@@ -120,7 +120,7 @@ fn fill_run(
     out: &mut [i64],
 ) -> Step
     requires { (entries_ok table.now ≡ true) × (n ≤ 327680) × (64 ≤ length out.old) }
-    ensures { let x = mem_of pages rows blocks table in
+    ensures { let x = mem pages.now rows.now blocks.now table.now in
         filled result out.new ≡ fill_run x lo (n - e) e out.old 0 }
 {
     let mut i = e;
@@ -145,7 +145,7 @@ fn fill_from(
     out: &mut [i64],
 ) -> Step
     requires { (entries_ok table.now ≡ true) × (out.old ≡ blank) }
-    ensures { let x = mem_of pages rows blocks table in
+    ensures { let x = mem pages.now rows.now blocks.now table.now in
         filled result out.new ≡ fill_from x lo }
 {
     let e = clip::first(table, lo);
@@ -156,7 +156,7 @@ fn fill_from(
 // Whether a member lies past an id. None lies past the largest, and no id past it is formed.
 fn any_past(pages: &[u64], rows: &[u32], blocks: &[u32], table: &[u64], last: i64) -> Truth
     requires { entries_ok table.now ≡ true }
-    ensures { let x = mem_of pages rows blocks table in
+    ensures { let x = mem pages.now rows.now blocks.now table.now in
         result ≡ any_by x (suc_ℤ last) (pos (2 ^ 63 - 1)) }
 {
     if last == i64::MAX {
@@ -190,7 +190,7 @@ fn record_of(
     start: i64,
 ) -> Listing
     requires { entries_ok table.now ≡ true }
-    ensures { let x = mem_of pages rows blocks table in
+    ensures { let x = mem pages.now rows.now blocks.now table.now in
         result ≡ record_by x start (to ids k) }
 {
     let count = k as u64;
@@ -229,7 +229,7 @@ fn record_of(
 
 // The 64 smallest members not below start, or all if fewer, with a mark that says whether that is all. A negative start is read as 0.
 pub fn iter_from(pages: &[u64], rows: &[u32], blocks: &[u32], table: &[u64], start: i64) -> Listing
-    ensures { let x = mem_of pages rows blocks table in
+    ensures { let x = mem pages.now rows.now blocks.now table.now in
         Answers x (iterate start) (listed result) }
 {
     if !entries::are(table) {

@@ -1,7 +1,7 @@
 // The walk over the table that calls make before they write to many chunks, or plan: every rule that is the table's alone.
 ghost use Rattle.std.specs.Prelude.{◌≡◌, true, not, ◌&&◌, ◌||◌, ◌+◌, ◌^◌, ◌≤◌, length, leb, ltb, eqb};
 ghost use Rattle.sums.specs.Rules.{all_to};
-ghost use Rattle.layout.specs.Mem.{mem_of};
+ghost use Rattle.layout.specs.Mem.{mem};
 ghost use Rattle.document.specs.Sizes.{InRange};
 ghost use Rattle.layout.specs.Sizes.{table_size, over_count, total_at};
 ghost use Rattle.layout.specs.Entries.{entries};
@@ -164,7 +164,7 @@ pub fn ranks_rise(table: &[u64], rise: bool, prefix: u64) -> bool
 
 // The sizes are allowed, the slices long enough, the mode is known and the overflow entries in use fit.
 pub fn head_is(h: Sizes, pages: &[u64], rows: &[u32], blocks: &[u32], table: &[u64]) -> bool
-    ensures { result ≡ head_is h (mem_of pages rows blocks table) }
+    ensures { result ≡ head_is h (mem pages.now rows.now blocks.now table.now) }
 {
     if !head::in_range(h) {
         return false;
@@ -194,7 +194,7 @@ pub fn table_is(table: &[u64], h: Sizes) -> bool
 
 // After it nothing of the table can be found wrong.
 pub fn walk(pages: &[u64], rows: &[u32], blocks: &[u32], table: &[u64]) -> bool
-    ensures { result ≡ walked (mem_of pages rows blocks table) }
+    ensures { result ≡ walked (mem pages.now rows.now blocks.now table.now) }
 {
     let h = head::read(table);
     if !head_is(h, pages, rows, blocks, table) {

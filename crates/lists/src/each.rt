@@ -2,7 +2,7 @@
 ghost use Rattle.std.specs.Prelude.{◌≡◌, true, ◌^◌, ◌<◌};
 ghost use Rattle.numbers.specs.Ids.{split_of};
 ghost use Rattle.numbers.specs.declared.Split.TheVariants.{At};
-ghost use Rattle.layout.specs.Mem.{mem_of};
+ghost use Rattle.layout.specs.Mem.{mem};
 ghost use Rattle.layout.specs.Meaning.{ranked};
 ghost use Rattle.layout.specs.Sizes.{head};
 ghost use Rattle.layout.specs.Entries.{word_of};
@@ -34,8 +34,8 @@ fn far_has(
     c: u64,
     o: u64,
 ) -> Truth
-    requires { Judged (mem_of pages rows blocks table) h × (c < 2 ^ 62) × (o < 2 ^ h.s) }
-    ensures { let x = mem_of pages rows blocks table in
+    requires { Judged (mem pages.now rows.now blocks.now table.now) h × (c < 2 ^ 62) × (o < 2 ^ h.s) }
+    ensures { let x = mem pages.now rows.now blocks.now table.now in
         result ≡ has_at x o (spot_by x (word_of (head x) x.table c)) }
 {
     let q = spot::far(pages, rows, blocks, table, h, c);
@@ -43,8 +43,8 @@ fn far_has(
 }
 
 pub fn got(pages: &[u64], rows: &[u32], blocks: &[u32], table: &[u64], h: Sizes, id: i64) -> u8
-    requires { Judged (mem_of pages rows blocks table) h }
-    ensures { result ≡ one_by (mem_of pages rows blocks table) get_all id }
+    requires { Judged (mem pages.now rows.now blocks.now table.now) h }
+    ensures { result ≡ one_by (mem pages.now rows.now blocks.now table.now) get_all id }
 {
     let Split::At(c, o) = ids::split(id, h.s) else {
         return 0;
@@ -68,8 +68,8 @@ fn placed(
     c: u64,
     o: u64,
 ) -> Amount
-    requires { Judged (mem_of pages rows blocks table) h × (c < h.d) × (o < 2 ^ h.s) }
-    ensures { let x = mem_of pages rows blocks table in
+    requires { Judged (mem pages.now rows.now blocks.now table.now) h × (c < h.d) × (o < 2 ^ h.s) }
+    ensures { let x = mem pages.now rows.now blocks.now table.now in
         result ≡ rank_seat x o (seat_in x.table c) }
 {
     let q = spot::of_chunk(pages, rows, blocks, table, h, c);
@@ -90,9 +90,9 @@ fn rank_in(
     c: u64,
     o: u64,
 ) -> u64
-    requires { let x = mem_of pages rows blocks table in
+    requires { let x = mem pages.now rows.now blocks.now table.now in
         Judged x h × (ranked x ≡ true) × (At c o ≡ split_of h.s id) × (c < 2 ^ 62) }
-    ensures { result ≡ one_by (mem_of pages rows blocks table) rank_all id }
+    ensures { result ≡ one_by (mem pages.now rows.now blocks.now table.now) rank_all id }
 {
     if h.d <= c {
         return number::of_amount(rank::rank(pages, rows, blocks, table, id));
@@ -101,8 +101,8 @@ fn rank_in(
 }
 
 pub fn rank_of(pages: &[u64], rows: &[u32], blocks: &[u32], table: &[u64], h: Sizes, id: i64) -> u64
-    requires { let x = mem_of pages rows blocks table in Judged x h × (ranked x ≡ true) }
-    ensures { result ≡ one_by (mem_of pages rows blocks table) rank_all id }
+    requires { let x = mem pages.now rows.now blocks.now table.now in Judged x h × (ranked x ≡ true) }
+    ensures { result ≡ one_by (mem pages.now rows.now blocks.now table.now) rank_all id }
 {
     let Split::At(c, o) = ids::split(id, h.s) else {
         return 0;
@@ -121,9 +121,9 @@ fn there(
     c: u64,
     o: u64,
 ) -> u8
-    requires { let x = mem_of pages rows blocks table in
+    requires { let x = mem pages.now rows.now blocks.now table.now in
         Judged x h × (At c o ≡ split_of h.s id) × (c < 2 ^ 62) }
-    ensures { result ≡ one_by (mem_of pages rows blocks table) get_all id }
+    ensures { result ≡ one_by (mem pages.now rows.now blocks.now table.now) get_all id }
 {
     if h.d <= c {
         return number::of_truth(far_has(pages, rows, blocks, table, h, c, o));
@@ -134,8 +134,8 @@ fn there(
 
 // The rank of a member: is it there, and then where, by the single call: with two callers `rank_in` would be compiled into neither loop.
 pub fn rank_if(pages: &[u64], rows: &[u32], blocks: &[u32], table: &[u64], h: Sizes, id: i64) -> u64
-    requires { let x = mem_of pages rows blocks table in Judged x h × (ranked x ≡ true) }
-    ensures { result ≡ one_by (mem_of pages rows blocks table) rank_if_all id }
+    requires { let x = mem pages.now rows.now blocks.now table.now in Judged x h × (ranked x ≡ true) }
+    ensures { result ≡ one_by (mem pages.now rows.now blocks.now table.now) rank_if_all id }
 {
     let Split::At(c, o) = ids::split(id, h.s) else {
         return NO_RANK;

@@ -1,6 +1,6 @@
 // Reading calls over a list: judged once by a walk, and then as many answers as the shorter of the two lists has. Answers past them stay.
 ghost use Rattle.std.specs.Prelude.{◌≡◌, min, true};
-ghost use Rattle.layout.specs.Mem.{mem_of};
+ghost use Rattle.layout.specs.Mem.{mem};
 ghost use Rattle.layout.specs.Meaning.{ranked};
 ghost use Rattle.layout.specs.Sizes.{head};
 ghost use Rattle.layout.specs.Tests.{Walked};
@@ -29,8 +29,8 @@ fn get_each(
     blocks: &[u32],
     table: &[u64],
 )
-    requires { let x = mem_of pages rows blocks table in Walked x (head x) }
-    ensures { let x = mem_of pages rows blocks table in
+    requires { let x = mem pages.now rows.now blocks.now table.now in Walked x (head x) }
+    ensures { let x = mem pages.now rows.now blocks.now table.now in
         answers.new ≡ answered (one_by x get_all) ids.now answers.old }
 {
     let h = head::read(table);
@@ -51,7 +51,7 @@ pub fn get_all(
     blocks: &[u32],
     table: &[u64],
 ) -> Outcome
-    ensures { let x = mem_of pages rows blocks table in
+    ensures { let x = mem pages.now rows.now blocks.now table.now in
         AnswersAll x get_all ids.now answers.old result answers.new }
 {
     if !walk::walk(pages, rows, blocks, table) {
@@ -63,7 +63,7 @@ pub fn get_all(
 
 // 3 where the walk finds the table wrong, 5 of an open set.
 fn judge(pages: &[u64], rows: &[u32], blocks: &[u32], table: &[u64]) -> Outcome
-    ensures { result ≡ list_answer (mem_of pages rows blocks table) rank_all }
+    ensures { result ≡ list_answer (mem pages.now rows.now blocks.now table.now) rank_all }
 {
     if !walk::walk(pages, rows, blocks, table) {
         return Outcome::Refused(refusal::NOT_LAID_OUT);
@@ -83,8 +83,8 @@ fn rank_each(
     blocks: &[u32],
     table: &[u64],
 )
-    requires { let x = mem_of pages rows blocks table in Walked x (head x) × (ranked x ≡ true) }
-    ensures { let x = mem_of pages rows blocks table in
+    requires { let x = mem pages.now rows.now blocks.now table.now in Walked x (head x) × (ranked x ≡ true) }
+    ensures { let x = mem pages.now rows.now blocks.now table.now in
         answers.new ≡ answered (one_by x rank_all) ids.now answers.old }
 {
     let h = head::read(table);
@@ -105,7 +105,7 @@ pub fn rank_all(
     blocks: &[u32],
     table: &[u64],
 ) -> Outcome
-    ensures { let x = mem_of pages rows blocks table in
+    ensures { let x = mem pages.now rows.now blocks.now table.now in
         AnswersAll x rank_all ids.now answers.old result answers.new }
 {
     let Outcome::Refused(n) = judge(pages, rows, blocks, table) else {
@@ -124,8 +124,8 @@ fn rank_if_each(
     blocks: &[u32],
     table: &[u64],
 )
-    requires { let x = mem_of pages rows blocks table in Walked x (head x) × (ranked x ≡ true) }
-    ensures { let x = mem_of pages rows blocks table in
+    requires { let x = mem pages.now rows.now blocks.now table.now in Walked x (head x) × (ranked x ≡ true) }
+    ensures { let x = mem pages.now rows.now blocks.now table.now in
         answers.new ≡ answered (one_by x rank_if_all) ids.now answers.old }
 {
     let h = head::read(table);
@@ -146,7 +146,7 @@ pub fn rank_if_set_all(
     blocks: &[u32],
     table: &[u64],
 ) -> Outcome
-    ensures { let x = mem_of pages rows blocks table in
+    ensures { let x = mem pages.now rows.now blocks.now table.now in
         AnswersAll x rank_if_all ids.now answers.old result answers.new }
 {
     let Outcome::Refused(n) = judge(pages, rows, blocks, table) else {

@@ -1,6 +1,6 @@
 // The part of a chunk after the walk: below D, where most chunks are, it is read off the entry without a test.
 ghost use Rattle.std.specs.Prelude.{◌≡◌, ◌^◌, ◌<◌};
-ghost use Rattle.layout.specs.Mem.{mem_of};
+ghost use Rattle.layout.specs.Mem.{mem};
 ghost use Rattle.layout.specs.Sizes.{head};
 ghost use Rattle.layout.specs.Entries.{word_of};
 ghost use Rattle.calls.specs.Reading.{spot_by};
@@ -14,8 +14,8 @@ use numbers::power;
 
 // A chunk past the direct entries: by the short test.
 pub fn far(pages: &[u64], rows: &[u32], blocks: &[u32], table: &[u64], h: Sizes, c: u64) -> Spot
-    requires { Judged (mem_of pages rows blocks table) h × (c < 2 ^ 62) }
-    ensures { let x = mem_of pages rows blocks table in
+    requires { Judged (mem pages.now rows.now blocks.now table.now) h × (c < 2 ^ 62) }
+    ensures { let x = mem pages.now rows.now blocks.now table.now in
         result ≡ spot_by x (word_of (head x) x.table c) }
 {
     match find::word_of(table, c) {
@@ -33,8 +33,8 @@ pub fn of_chunk(
     h: Sizes,
     c: u64,
 ) -> Spot
-    requires { Judged (mem_of pages rows blocks table) h × (c < h.d) }
-    ensures { let x = mem_of pages rows blocks table in
+    requires { Judged (mem pages.now rows.now blocks.now table.now) h × (c < h.d) }
+    ensures { let x = mem pages.now rows.now blocks.now table.now in
         result ≡ spot_by x (word_of (head x) x.table c) }
 {
     match entry::place_at(table, h, c) {

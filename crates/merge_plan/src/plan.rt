@@ -1,7 +1,7 @@
 // What a union answers, before anything is written.
 ghost use Rattle.std.specs.Prelude.{◌≡◌, cond};
 ghost use Rattle.document.specs.Union.{merge_from, merge};
-ghost use Rattle.layout.specs.Mem.{Mem, mem_of};
+ghost use Rattle.layout.specs.Mem.{Mem, mem};
 ghost use Rattle.layout.specs.Sizes.{header_at};
 ghost use Rattle.unions.specs.Union.{union_plan};
 ghost use Rattle.merge_plan.specs.Judging.{Passed, OnAny};
@@ -42,8 +42,8 @@ pub fn union_plan(
     stable: &[u64],
     both: bool,
 ) -> Outcome
-    ensures { let x = mem_of pages rows blocks table in
-        let y = mem_of spages srows sblocks stable in
+    ensures { let x = mem pages.now rows.now blocks.now table.now in
+        let y = mem spages.now srows.now sblocks.now stable.now in
         result ≡ union_plan x y (cond both merge merge_from) }
 {
     if !walk::walk(pages, rows, blocks, table) {

@@ -4,7 +4,7 @@
 mod pass;
 
 ghost use Rattle.document.specs.Union.{merge_from, merge};
-ghost use Rattle.layout.specs.Mem.{mem, mem_of};
+ghost use Rattle.layout.specs.Mem.{mem};
 ghost use Rattle.contracts.specs.Does.{Joins};
 
 use document::answer::Outcome;
@@ -24,7 +24,7 @@ pub fn merge_from(
     stable: &[u64],
 ) -> Outcome
     ensures { let x = mem pages.old rows.old blocks.old table.old in
-        let y = mem_of spages srows sblocks stable in
+        let y = mem spages.now srows.now sblocks.now stable.now in
         let u = mem pages.new rows.new blocks.new table.new in
         Joins x y merge_from result u y }
 {

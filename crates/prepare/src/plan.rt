@@ -1,6 +1,6 @@
 // What preparation is to do, judged by arithmetic on a table that passed the walk.
 ghost use Rattle.std.specs.Prelude.{◌≡◌, ◌&&◌, ◌^◌, ◌≤◌, ◌<◌, ltb};
-ghost use Rattle.layout.specs.Mem.{mem_of};
+ghost use Rattle.layout.specs.Mem.{mem};
 ghost use Rattle.document.specs.Sizes.{InRange};
 ghost use Rattle.layout.specs.Sizes.{over_count};
 ghost use Rattle.layout.specs.Places.{has_page};
@@ -77,7 +77,7 @@ pub fn plan_for(
     table: &[u64],
     max_id: i64,
 ) -> Preparation
-    ensures { result ≡ plan_prepare (mem_of pages rows blocks table) max_id }
+    ensures { result ≡ plan_prepare (mem pages.now rows.now blocks.now table.now) max_id }
 {
     if !walk::walk(pages, rows, blocks, table) {
         return Preparation::Refuse(refusal::NOT_LAID_OUT);

@@ -2,7 +2,7 @@
 // C has these, since a slice of records can't be exported.
 ghost use Rattle.std.specs.Prelude.{◌≡◌, min};
 ghost use Rattle.document.specs.Spans.{ids_answer};
-ghost use Rattle.layout.specs.Mem.{mem_of};
+ghost use Rattle.layout.specs.Mem.{mem};
 ghost use Rattle.range_list.specs.Marks.{EndsByRange, EndsByPartition};
 
 use crate::mark;
@@ -28,7 +28,7 @@ pub fn mark_ends_by_range(
     blocks: &[u32],
     table: &[u64],
 ) -> Outcome
-    ensures { let x = mem_of pages rows blocks table in
+    ensures { let x = mem pages.now rows.now blocks.now table.now in
         EndsByRange x lows.now highs.now marks.old result marks.new }
 {
     let a = mark::walked(pages, rows, blocks, table);

@@ -1,6 +1,6 @@
 // Marks of a lent list of records. A function that holds such a list is proved by hand, so these two only take records apart: low and high stay.
 ghost use Rattle.document.specs.Spans.{ids_answer};
-ghost use Rattle.layout.specs.Mem.{mem_of};
+ghost use Rattle.layout.specs.Mem.{mem};
 ghost use Rattle.range_list.specs.Marks.{MarksByRange, MarksByPartition};
 
 use crate::mark;
@@ -17,7 +17,7 @@ pub fn mark_by_range(
     blocks: &[u32],
     table: &[u64],
 ) -> Outcome
-    ensures { let x = mem_of pages rows blocks table in
+    ensures { let x = mem pages.now rows.now blocks.now table.now in
         MarksByRange x list.old result list.new }
 {
     let a = mark::walked(pages, rows, blocks, table);

@@ -1,7 +1,7 @@
 // What the marks are set by: the test of one record's ends, what a call answers, and how many marks it sets.
 ghost use Rattle.std.specs.Prelude.{◌≡◌};
 ghost use Rattle.document.specs.RangeList.{meets_answer};
-ghost use Rattle.layout.specs.Mem.{mem_of};
+ghost use Rattle.layout.specs.Mem.{mem};
 ghost use Rattle.range_list.specs.Marks.{hit_by, met_by, range_answer, due_by};
 
 use document::answer::{Outcome, Truth};
@@ -13,7 +13,7 @@ use scan::range;
 
 // 3 where the walk finds the table wrong. After it no range test is refused.
 pub fn walked(pages: &[u64], rows: &[u32], blocks: &[u32], table: &[u64]) -> Outcome
-    ensures { result ≡ range_answer (mem_of pages rows blocks table) }
+    ensures { result ≡ range_answer (mem pages.now rows.now blocks.now table.now) }
 {
     if !walk::walk(pages, rows, blocks, table) {
         return Outcome::Refused(refusal::NOT_LAID_OUT);
@@ -23,7 +23,7 @@ pub fn walked(pages: &[u64], rows: &[u32], blocks: &[u32], table: &[u64]) -> Out
 
 // Whether a member lies in low to high. A refusal is read as no: after the walk there is none.
 pub fn hit(low: i64, high: i64, pages: &[u64], rows: &[u32], blocks: &[u32], table: &[u64]) -> bool
-    ensures { result ≡ hit_by (mem_of pages rows blocks table) low high }
+    ensures { result ≡ hit_by (mem pages.now rows.now blocks.now table.now) low high }
 {
     match range::any_in_range(pages, rows, blocks, table, low, high) {
         Truth::Is(b) => b,

@@ -2,7 +2,7 @@
 #![tactic(auto)]
 
 ghost use Rattle.std.specs.Prelude.{◌≡◌, [], ◌+◌, ◌*◌, ◌/◌, ◌^◌, ◌≤◌, ◌<◌, length};
-ghost use Rattle.layout.specs.Mem.{mem, mem_of};
+ghost use Rattle.layout.specs.Mem.{mem};
 ghost use Rattle.layout.specs.Sizes.{header_at};
 ghost use Rattle.calls.specs.Reading.{spot_by};
 ghost use Rattle.ranks.specs.Rank.{in_page, below_at, plus_before};
@@ -57,7 +57,7 @@ pub fn below(
     o: u64,
 ) -> Amount
     requires { (9 ≤ s) × (s ≤ 25) × (s ≡ (header_at table.now).s) × (o < 2 ^ s) }
-    ensures { let x = mem_of pages rows blocks table in
+    ensures { let x = mem pages.now rows.now blocks.now table.now in
         (result ≡ below_at x o (spot_by x w)) × Small result }
 {
     below_in(pages, rows, blocks, find::spot_of(pages, rows, table, w), o)

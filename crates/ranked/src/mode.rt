@@ -1,6 +1,6 @@
 // Open, ranked, or memory that a call finds bad.
 ghost use Rattle.std.specs.Prelude.{◌≡◌};
-ghost use Rattle.layout.specs.Mem.{mem_of};
+ghost use Rattle.layout.specs.Mem.{mem};
 ghost use Rattle.ranked.specs.Modes.{form_in, form_of};
 
 use layout::head;
@@ -30,7 +30,7 @@ pub fn form_in(table: &[u64]) -> Form
 
 // Ranking and leaving it write to all entries: after the walk nothing can be found wrong.
 pub fn form_of(pages: &[u64], rows: &[u32], blocks: &[u32], table: &[u64]) -> Form
-    ensures { result ≡ form_of (mem_of pages rows blocks table) }
+    ensures { result ≡ form_of (mem pages.now rows.now blocks.now table.now) }
 {
     if !walk::walk(pages, rows, blocks, table) {
         return Form::Bad;

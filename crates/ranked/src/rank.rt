@@ -1,6 +1,6 @@
 // Ranks of a ranked set: `rank`, `rank_if_set`, `total_count`.
 ghost use Rattle.std.specs.Prelude.{◌≡◌, ◌^◌, ◌≤◌, ◌<◌};
-ghost use Rattle.layout.specs.Mem.{mem_of};
+ghost use Rattle.layout.specs.Mem.{mem};
 ghost use Rattle.layout.specs.Sizes.{header_at};
 ghost use Rattle.layout.specs.Seat.{seat_in};
 ghost use Rattle.ranks.specs.Rank.{rank_seat, rank_if_seat, perhaps_of};
@@ -26,7 +26,7 @@ fn rank_at(
     o: u64,
 ) -> Amount
     requires { (9 ≤ s) × (s ≤ 25) × (s ≡ (header_at table.now).s) × (c < 2 ^ 62) × (o < 2 ^ s) }
-    ensures { result ≡ rank_seat (mem_of pages rows blocks table) o (seat_in table.now c) }
+    ensures { result ≡ rank_seat (mem pages.now rows.now blocks.now table.now) o (seat_in table.now c) }
 {
     match seat::seat_of(table, c) {
         Seat::Bad => Amount::Refused(refusal::NOT_LAID_OUT),
@@ -60,7 +60,7 @@ fn rank_if_at(
     o: u64,
 ) -> Perhaps
     requires { (9 ≤ s) × (s ≤ 25) × (s ≡ (header_at table.now).s) × (c < 2 ^ 62) × (o < 2 ^ s) }
-    ensures { result ≡ rank_if_seat (mem_of pages rows blocks table) o (seat_in table.now c) }
+    ensures { result ≡ rank_if_seat (mem pages.now rows.now blocks.now table.now) o (seat_in table.now c) }
 {
     match seat::seat_of(table, c) {
         Seat::Bad => Perhaps::Refused(refusal::NOT_LAID_OUT),
@@ -83,7 +83,7 @@ fn rank_if_at(
 
 // The members strictly below an id, 0 for an id of 0 or less.
 pub fn rank(pages: &[u64], rows: &[u32], blocks: &[u32], table: &[u64], id: i64) -> Amount
-    ensures { let x = mem_of pages rows blocks table in Answers x (rank_of id) (many result) }
+    ensures { let x = mem pages.now rows.now blocks.now table.now in Answers x (rank_of id) (many result) }
 {
     match mode::form_in(table) {
         Form::Bad => Amount::Refused(refusal::NOT_LAID_OUT),
@@ -100,7 +100,7 @@ pub fn rank(pages: &[u64], rows: &[u32], blocks: &[u32], table: &[u64], id: i64)
 
 // A member's rank, none for another id.
 pub fn rank_if_set(pages: &[u64], rows: &[u32], blocks: &[u32], table: &[u64], id: i64) -> Perhaps
-    ensures { let x = mem_of pages rows blocks table in Answers x (rank_if_set id) (maybe result) }
+    ensures { let x = mem pages.now rows.now blocks.now table.now in Answers x (rank_if_set id) (maybe result) }
 {
     match mode::form_in(table) {
         Form::Bad => Perhaps::Refused(refusal::NOT_LAID_OUT),
@@ -117,7 +117,7 @@ pub fn rank_if_set(pages: &[u64], rows: &[u32], blocks: &[u32], table: &[u64], i
 
 // The members, as ranking counted them.
 pub fn total_count(pages: &[u64], rows: &[u32], blocks: &[u32], table: &[u64]) -> Amount
-    ensures { let x = mem_of pages rows blocks table in Answers x total_count (many result) }
+    ensures { let x = mem pages.now rows.now blocks.now table.now in Answers x total_count (many result) }
 {
     match mode::form_in(table) {
         Form::Bad => Amount::Refused(refusal::NOT_LAID_OUT),

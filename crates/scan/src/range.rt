@@ -1,7 +1,7 @@
 // The range test: entries from the low end's chunk to the high end's, up to the first that doesn't answer no.
 ghost use Rattle.std.specs.Prelude.{◌≡◌, true, ◌-◌, ◌^◌, ◌≤◌, ◌<◌, get_or};
 ghost use Rattle.document.specs.Calls.{any_in_range, whether};
-ghost use Rattle.layout.specs.Mem.{mem_of};
+ghost use Rattle.layout.specs.Mem.{mem};
 ghost use Rattle.layout.specs.Sizes.{header_at};
 ghost use Rattle.calls.specs.Reading.{spot_by};
 ghost use Rattle.calls.specs.Counts.{entries_ok};
@@ -27,7 +27,7 @@ fn any_at(
     w: u64,
 ) -> Truth
     requires { (9 ≤ (header_at table.now).s) × ((header_at table.now).s ≤ 25) × (a < 2 ^ (header_at table.now).s) × (b < 2 ^ (header_at table.now).s) }
-    ensures { let x = mem_of pages rows blocks table in
+    ensures { let x = mem pages.now rows.now blocks.now table.now in
         result ≡ any_at x a b (spot_by x w) }
 {
     match find::spot_of(pages, rows, table, w) {
@@ -55,7 +55,7 @@ fn any_entry(
     e: u64,
 ) -> Truth
     requires { (entries_ok table.now ≡ true) × (e ≤ 327680) }
-    ensures { let x = mem_of pages rows blocks table in
+    ensures { let x = mem pages.now rows.now blocks.now table.now in
         result ≡ any_entry x lo hi e }
 {
     let w = entry::word_by(table, e);
@@ -96,7 +96,7 @@ fn any_run(
     n: u64,
 ) -> Truth
     requires { (entries_ok table.now ≡ true) × (n ≤ 327680) }
-    ensures { let x = mem_of pages rows blocks table in
+    ensures { let x = mem pages.now rows.now blocks.now table.now in
         result ≡ any_run x lo hi (n - e) e }
 {
     let last = power::high(hi, head::shift(table));
@@ -117,7 +117,7 @@ fn any_run(
 // Whether an id lies in lo to hi.
 fn any_from(pages: &[u64], rows: &[u32], blocks: &[u32], table: &[u64], lo: u64, hi: u64) -> Truth
     requires { entries_ok table.now ≡ true }
-    ensures { let x = mem_of pages rows blocks table in
+    ensures { let x = mem pages.now rows.now blocks.now table.now in
         result ≡ any_from x lo hi }
 {
     let e = clip::first(table, lo);
@@ -142,7 +142,7 @@ pub fn any_in_range(
     min: i64,
     max: i64,
 ) -> Truth
-    ensures { let x = mem_of pages rows blocks table in
+    ensures { let x = mem pages.now rows.now blocks.now table.now in
         Answers x (any_in_range min max) (whether result) }
 {
     if !entries::are(table) {

@@ -1,0 +1,10 @@
+-- Case by case. Assumes nothing.
+use mathlib.Core.Path.{ap, sym}
+use Rattle.codes.specs.Codes.{amount_code}
+use Rattle.codes.proofs.answer.of_amount.Goals as goal
+
+pub returns-in-Of : goal.returns-in-Of
+returns-in-Of c = ap amount_code (sym c.in-Of.is)
+
+pub returns-in-Refused : goal.returns-in-Refused
+returns-in-Refused c = ap amount_code (sym c.in-Refused.is)
