@@ -1,0 +1,40 @@
+use mathlib.Core.Path.{sym, subst}
+use Prim.Native.Nat.{◌-◌}
+use native.Mathlib.Omega.{arith}
+use Rattle.document.specs.Sizes.{InRange}
+use Rattle.prepare.proofs.Steady.{sound_range, underway_none, underway_turn, underway_more, underway_end}
+use Rattle.prepare.proofs.write.make_all.Goals as goal
+
+pub free_page-p-requires : goal.free_page-p-requires
+free_page-p-requires c =
+    (subst InRange (sym c.read-h.ensures) (sound_range c.args.pages.now c.args.rows.now c.args.table.now c.args.c c.requires))
+
+pub loop-i-init : goal.loop-i-init
+loop-i-init c =
+    let a = c.args in
+    underway_none c.read-h.result a.pages.now a.rows.now a.table.now a.c c.read-h.ensures _ c.free_page-p.ensures
+
+pub make_dense-requires : goal.make_dense-requires
+make_dense-requires c =
+    (underway_turn _ _ _ _ c.args.c c.requires _ _ _ _ c.loop-i.i c.loop-i.invariant (omega (arith, c.loop-i-test.true)))
+
+pub next_page-p-requires : goal.next_page-p-requires
+next_page-p-requires c =
+    (subst InRange (sym c.read-h.ensures) (sound_range c.args.pages.now c.args.rows.now c.args.table.now c.args.c c.requires))
+
+pub overflow_add-i : goal.overflow_add-i
+overflow_add-i c =
+    omega (arith, ((underway_turn _ _ _ _ c.args.c c.requires _ _ _ _ c.loop-i.i c.loop-i.invariant (omega (arith, c.loop-i-test.true)))).chunk)
+
+pub loop-i-smaller : goal.loop-i-smaller
+loop-i-smaller c = omega (arith, c.loop-i-test.true)
+
+pub loop-i-preserved : goal.loop-i-preserved
+loop-i-preserved c =
+    let k = c.make_dense in
+    underway_more _ _ _ _ c.args.c c.requires _ _ _ _ c.loop-i.i c.loop-i.invariant
+    (omega (arith, c.loop-i-test.true)) _ _ _ _ k.auto.0 k.auto.1.0 k.auto.1.1.0 k.ensures c.next_page-p.ensures
+
+pub returns : goal.returns
+returns c =
+    underway_end _ _ _ _ c.args.c c.requires _ _ _ _ c.loop-i.i c.loop-i.invariant (omega (arith, c.loop-i-test.false))
