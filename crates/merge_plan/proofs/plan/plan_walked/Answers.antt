@@ -1,7 +1,7 @@
--- TODO ('helper', '')
 -- The modes, the shapes, then judging. Assumes nothing.
 use mathlib.Core.Path.{sym, subst}
 use Rattle.document.specs.declared.sizes.Sizes.{Sizes}
+use Rattle.layout.specs.Mem.{mem}
 use Rattle.merge_plan.specs.Judging.{Passed}
 use Rattle.merge_plan.proofs.Planning.{plan_four, plan_ten, plan_judged}
 use Rattle.std.proofs.lemmas.Bool.{not_from_false, not_from_true}
@@ -9,23 +9,23 @@ use Rattle.merge_plan.proofs.plan.plan_walked.Goals as goal
 
 pub returns-then-mode-both : goal.returns-then-mode-both
 returns-then-mode-both c =
-    λ p b u v. plan_four (here c.before.before p b) (there c.before.before u v) (start c.before.before).args.both _ _ c.mode.ensures c.mode-2.ensures c.if-mode-both.true
+    λ p b u v. plan_four ((mem p c.args.rows.now b c.args.table.now)) ((mem u c.args.srows.now v c.args.stable.now)) c.args.both _ _ c.mode.ensures c.mode-2.ensures c.if-mode-both.true
 
 pub returns-then-not-h-g : goal.returns-then-not-h-g
 returns-then-not-h-g c =
     λ p b u v.
-    plan_ten (here c.before.before.before.before.before.before.before.before.before p b) (there c.before.before.before.before.before.before.before.before.before u v) (start c.before.before.before.before.before.before.before.before.before).args.both _ _ c.mode.ensures c.mode-2.ensures c.if-mode-both.false _ _
+    plan_ten ((mem p c.args.rows.now b c.args.table.now)) ((mem u c.args.srows.now v c.args.stable.now)) c.args.both _ _ c.mode.ensures c.mode-2.ensures c.if-mode-both.false _ _
     c.read-h.ensures c.read-g.ensures (not_from_false _ c.if-not-h-g.true)
 
 pub judge-requires : goal.judge-requires
 judge-requires c =
-    let s = start c.before.before.before.before.before.before.before.before.before in (
-      subst (λ (h : Sizes). Passed h s.args.rows.now s.args.table.now) (sym c.read-h.ensures) s.pre.0,
-      subst (λ (h : Sizes). Passed h s.args.srows.now s.args.stable.now) (sym c.read-g.ensures) s.pre.1,
+    (
+      subst (λ (h : Sizes). Passed h c.args.rows.now c.args.table.now) (sym c.read-h.ensures) c.requires.0,
+      subst (λ (h : Sizes). Passed h c.args.srows.now c.args.stable.now) (sym c.read-g.ensures) c.requires.1,
     )
 
 pub returns : goal.returns
 returns c =
     λ p b u v.
-    plan_judged (here c.before.before.before.before.before.before.before.before.before.before p b) (there c.before.before.before.before.before.before.before.before.before.before u v) (start c.before.before.before.before.before.before.before.before.before.before).args.both _ _ c.mode.ensures c.mode-2.ensures c.if-mode-both.false _ _
+    plan_judged ((mem p c.args.rows.now b c.args.table.now)) ((mem u c.args.srows.now v c.args.stable.now)) c.args.both _ _ c.mode.ensures c.mode-2.ensures c.if-mode-both.false _ _
     c.read-h.ensures c.read-g.ensures (not_from_true _ c.if-not-h-g.false) _ (c.judge.ensures p b u v)

@@ -7,7 +7,7 @@ use Rattle.prepare.proofs.write.make_all.Goals as goal
 
 pub free_page-p-requires : goal.free_page-p-requires
 free_page-p-requires c =
-    (subst InRange (sym c.read-h.ensures) (sound_range c.args.pages.now c.args.rows.now c.args.table.now c.args.c c.requires))
+    (let known : InRange c.read-h.result = subst InRange (sym c.read-h.ensures) (sound_range c.args.pages.now c.args.rows.now c.args.table.now c.args.c c.requires) in known)
 
 pub loop-i-init : goal.loop-i-init
 loop-i-init c =
@@ -20,7 +20,7 @@ make_dense-requires c =
 
 pub next_page-p-requires : goal.next_page-p-requires
 next_page-p-requires c =
-    (subst InRange (sym c.read-h.ensures) (sound_range c.args.pages.now c.args.rows.now c.args.table.now c.args.c c.requires))
+    (let known : InRange c.read-h.result = subst InRange (sym c.read-h.ensures) (sound_range c.args.pages.now c.args.rows.now c.args.table.now c.args.c c.requires) in known)
 
 pub overflow_add-i : goal.overflow_add-i
 overflow_add-i c =
@@ -33,7 +33,7 @@ pub loop-i-preserved : goal.loop-i-preserved
 loop-i-preserved c =
     let k = c.make_dense in
     underway_more _ _ _ _ c.args.c c.requires _ _ _ _ c.loop-i.i c.loop-i.invariant
-    (omega (arith, c.loop-i-test.true)) _ _ _ _ k.auto.0 k.auto.1.0 k.auto.1.1.0 k.ensures c.next_page-p.ensures
+    (omega (arith, c.loop-i-test.true)) _ _ _ _ k.auto.pages k.auto.rows k.auto.table k.ensures c.next_page-p.ensures
 
 pub returns : goal.returns
 returns c =

@@ -1,6 +1,7 @@
 -- By the chunk's place: the word that is found names it. Assumes nothing.
-use mathlib.Core.Path.{refl, ap, ◌∙◌}
+use mathlib.Core.Path.{◌≡◌, refl, ap, ◌∙◌}
 use Rattle.layout.specs.Mem.{mem}
+use Rattle.layout.specs.Entries.{place_of}
 use Rattle.layout.specs.declared.place.Place.TheVariants.{Absent, Sparse, Dense}
 use Rattle.calls.specs.Prepare.{into_page}
 use Rattle.steps.proofs.Fills.{blank_paged}
@@ -18,9 +19,10 @@ enter_page-requires c =
 pub turn_row-requires : goal.turn_row-requires
 turn_row-requires c =
     let t = c.requires in
-    let i = inside_same _ _ _ ((place_is c.args.h c.args.table.now c.args.c c.requires.word _ c.word_of.ensures _ _ _ c.in-Is.is c.decode.ensures c.in-Sparse.is)) t.row in (
+    let e : Sparse c.in-Sparse.r c.in-Sparse.l ≡ place_of c.args.h c.args.table.now c.args.c = place_is c.args.h c.args.table.now c.args.c t.word _ c.word_of.ensures _ _ _ c.in-Is.is c.decode.ensures c.in-Sparse.is in
+    let i = inside_same c.args.h _ _ e t.row in (
       record { sizes = t.sizes; in_pages = t.in_pages; in_rows = t.in_rows; row = i.0; members = i.1 },
-      (page_there c.args.h c.args.p _ _ ((place_is c.args.h c.args.table.now c.args.c c.requires.word _ c.word_of.ensures _ _ _ c.in-Is.is c.decode.ensures c.in-Sparse.is)) c.requires.page) refl,
+      (page_there c.args.h c.args.p _ _ e t.page) refl,
       t.over,
       t.chunk,
     )

@@ -1,9 +1,11 @@
--- TODO ('helper', '')
 -- The seat, whether the offset is there, then its rank. Assumes nothing.
-use mathlib.Core.Path.{sym, ap, ◌∙◌, subst}
+use mathlib.Core.Path.{◌≡◌, sym, ap, ◌∙◌, subst}
 use lib.ListN.{length}
 use Rattle.layout.specs.Mem.{mem}
 use Rattle.layout.specs.Part.{Within}
+use Rattle.layout.specs.Seat.{seat_in}
+use Rattle.layout.specs.declared.seat.Seat.TheVariants as seat
+use Rattle.calls.specs.Reading.{spot_by, has_at}
 use Rattle.calls.proofs.Spots.{within_spot}
 use Rattle.ranks.specs.Rank.{rank_if_seat}
 use Rattle.ranked.proofs.Answers.{seat_refused, seat_none, seat_member}
@@ -17,7 +19,7 @@ has-requires c =
 
 pub returns-then-not-b : goal.returns-then-not-b
 returns-then-not-b c =
-    seat_none ((mem (start c.before.before.before.before.before).args.pages.now (start c.before.before.before.before.before).args.rows.now (start c.before.before.before.before.before).args.blocks.now (start c.before.before.before.before.before).args.table.now)) (start c.before.before.before.before.before).args.o _ (w c.before.before.before.before.before) (first c.before.before.before.before.before) (seat_is c.before.before.before.before.before) _ (has_is c.before.before.before.before.before) _ c.in-Is.is (not_from_false _ c.if-not-b.true)
+    seat_none ((mem c.args.pages.now c.args.rows.now c.args.blocks.now c.args.table.now)) c.args.o _ c.in-At.w c.in-At.before ((let known : seat.At c.in-At.w c.in-At.before ≡ seat_in ((mem c.args.pages.now c.args.rows.now c.args.blocks.now c.args.table.now)).table c.args.c = sym c.in-At.is ∙ c.seat_of.ensures in known)) _ ((let known : c.has.result ≡ has_at ((mem c.args.pages.now c.args.rows.now c.args.blocks.now c.args.table.now)) c.args.o (spot_by ((mem c.args.pages.now c.args.rows.now c.args.blocks.now c.args.table.now)) c.in-At.w) = c.has.ensures ∙ ap (has_at ((mem c.args.pages.now c.args.rows.now c.args.blocks.now c.args.table.now)) c.args.o) c.spot_of.ensures in known)) _ c.in-Is.is (not_from_false _ c.if-not-b.true)
 
 pub returns-in-Bad : goal.returns-in-Bad
 returns-in-Bad c =
@@ -25,9 +27,9 @@ returns-in-Bad c =
 
 pub returns-in-Refused : goal.returns-in-Refused
 returns-in-Refused c =
-    seat_refused ((mem (start c.before.before.before.before).args.pages.now (start c.before.before.before.before).args.rows.now (start c.before.before.before.before).args.blocks.now (start c.before.before.before.before).args.table.now)) (start c.before.before.before.before).args.o _ (w c.before.before.before.before) (first c.before.before.before.before) (seat_is c.before.before.before.before) _ (has_is c.before.before.before.before) _ c.in-Refused.is
+    seat_refused ((mem c.args.pages.now c.args.rows.now c.args.blocks.now c.args.table.now)) c.args.o _ c.in-At.w c.in-At.before ((let known : seat.At c.in-At.w c.in-At.before ≡ seat_in ((mem c.args.pages.now c.args.rows.now c.args.blocks.now c.args.table.now)).table c.args.c = sym c.in-At.is ∙ c.seat_of.ensures in known)) _ ((let known : c.has.result ≡ has_at ((mem c.args.pages.now c.args.rows.now c.args.blocks.now c.args.table.now)) c.args.o (spot_by ((mem c.args.pages.now c.args.rows.now c.args.blocks.now c.args.table.now)) c.in-At.w) = c.has.ensures ∙ ap (has_at ((mem c.args.pages.now c.args.rows.now c.args.blocks.now c.args.table.now)) c.args.o) c.spot_of.ensures in known)) _ c.in-Refused.is
 
 pub returns-else-not-b : goal.returns-else-not-b
 returns-else-not-b c =
-    seat_member ((mem (start c.before.before.before.before.before.before.before.before).args.pages.now (start c.before.before.before.before.before.before.before.before).args.rows.now (start c.before.before.before.before.before.before.before.before).args.blocks.now (start c.before.before.before.before.before.before.before.before).args.table.now)) (start c.before.before.before.before.before.before.before.before).args.o _ (w c.before.before.before.before.before.before.before.before) (first c.before.before.before.before.before.before.before.before) (seat_is c.before.before.before.before.before.before.before.before) _ (has_is c.before.before.before.before.before.before.before.before) _ c.in-Is.is (not_from_true _ c.if-not-b.false)
+    seat_member ((mem c.args.pages.now c.args.rows.now c.args.blocks.now c.args.table.now)) c.args.o _ c.in-At.w c.in-At.before ((let known : seat.At c.in-At.w c.in-At.before ≡ seat_in ((mem c.args.pages.now c.args.rows.now c.args.blocks.now c.args.table.now)).table c.args.c = sym c.in-At.is ∙ c.seat_of.ensures in known)) _ ((let known : c.has.result ≡ has_at ((mem c.args.pages.now c.args.rows.now c.args.blocks.now c.args.table.now)) c.args.o (spot_by ((mem c.args.pages.now c.args.rows.now c.args.blocks.now c.args.table.now)) c.in-At.w) = c.has.ensures ∙ ap (has_at ((mem c.args.pages.now c.args.rows.now c.args.blocks.now c.args.table.now)) c.args.o) c.spot_of.ensures in known)) _ c.in-Is.is (not_from_true _ c.if-not-b.false)
     _ _ _ c.below.ensures.0 c.after.ensures c.perhaps.ensures
