@@ -1,5 +1,5 @@
 // The program: it reads, hands over, and writes. S and ids from standard input; to standard output, the plan or the first fault met.
-// A proved loop has to end, so reads are counted down from a number that no run uses up. A read that fails ends the program without output.
+// A proved loop has to end, so reads are counted up to a number that no run reaches. A read that fails ends the program without output.
 #![tactic(auto)]
 
 use intake::input;
