@@ -5,10 +5,9 @@ use mathlib.Core.List.{List, [], ◌∷◌, ◌++◌}
 use Prim.Native.Nat.{ℕ, suc, ◌+◌, ◌-◌, ◌*◌, ◌^◌, ◌≤◌, ◌<◌}
 use native.Mathlib.Omega.{arith}
 use lib.Dec.{leb, ltb, eqb}
-use lib.IntN.{ℤ, pos, neg_ℤ}
 use lib.ListN.{length}
 use Rattle.sums.proofs.Rules.{both}
-use borrow.Author.Tests.{leb-true, ltb-true, ltb-false, eqb-true, le-leb, lt-leb, lt-ltb, le-ltb}
+use borrow.Author.Tests.{leb-true, ltb-true, eqb-true, le-leb, lt-ltb}
 use Rattle.lines.specs.Line.{is_digit, all_digits, value_from, size_line, positive, negative, id_line}
 use Rattle.lines.specs.Reader.{digit_on, next, read_from, line_of, empty_in, size_in, within, signed_by, id_in}
 use Rattle.lines.specs.declared.Id.TheVariants as id

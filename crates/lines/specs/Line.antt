@@ -1,5 +1,5 @@
 -- What a line of the program's input says, from its bytes alone: S on the first line, an id on every other.
-use Rattle.std.specs.Prelude.{Bool, true, false, cond, ◌&&◌, List, [], ◌∷◌, ℕ, ◌+◌, ◌-◌, ◌*◌, ◌^◌, leb, ltb, eqb, pos, neg_ℤ, length}
+use Rattle.std.specs.Prelude.{Bool, true, cond, ◌&&◌, List, [], ◌∷◌, ℕ, ◌+◌, ◌-◌, ◌*◌, ◌^◌, leb, ltb, eqb, pos, neg_ℤ, length}
 use Rattle.lines.specs.declared.Id.{Id}
 use Rattle.lines.specs.declared.Id.TheVariants as id
 use Rattle.lines.specs.declared.Number.{Number}

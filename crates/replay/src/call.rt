@@ -4,6 +4,8 @@ use exports::{change, number, read};
 use lines::words;
 use replies::told::Told;
 use replies::{memory, say, told, verb};
+use std::io;
+use std::io::Stdout;
 
 // `setup K s m D V R P`
 fn set_up(line: &[u8], p: &mut [u64], r: &mut [u32], b: &mut [u32], t: &mut [u64]) -> Told {
@@ -56,38 +58,62 @@ fn asks(v: u64, id: i64, p: &[u64], r: &[u32], b: &[u32], t: &[u64]) -> Told {
 }
 
 // `bounded claim length perbyte`
-fn bounded(line: &[u8]) {
+fn bounded(out: &mut Stdout, line: &[u8]) -> io::Result<()> {
     let claim = words::id_or(line, 1, 0);
     let length = words::number_or(line, 2, 0);
     let per = words::number_or(line, 3, 0);
-    say::signed(number::bp_file_bounded_max_id(claim, length, per));
+    say::signed(out, number::bp_file_bounded_max_id(claim, length, per))
 }
 
 // `any K min max`, said as `get` is
-fn any(line: &[u8], p: &[u64], r: &[u32], b: &[u32], t: &[u64]) {
+fn any(
+    out: &mut Stdout,
+    line: &[u8],
+    p: &[u64],
+    r: &[u32],
+    b: &[u32],
+    t: &[u64],
+) -> io::Result<()> {
     let min = words::id_or(line, 2, 0);
     let max = words::id_or(line, 3, 0);
-    say::answer(8, told::truth(read::bp_any_in_range(p, r, b, t, min, max)));
+    say::answer(
+        out,
+        8,
+        told::truth(read::bp_any_in_range(p, r, b, t, min, max)),
+    )
 }
 
 // What changes nothing.
-pub fn reads(v: u64, line: &[u8], p: &[u64], r: &[u32], b: &[u32], t: &[u64], c: &[i64]) {
+pub fn reads(
+    out: &mut Stdout,
+    v: u64,
+    line: &[u8],
+    p: &[u64],
+    r: &[u32],
+    b: &[u32],
+    t: &[u64],
+    c: &[i64],
+) -> io::Result<()> {
     match v {
-        17 => say::word(b"no yes", read::bp_check(p, r, b, t) as u64),
-        18 => memory::dump(p, r, b, t, c),
-        20..=22 => partition::call(v, line, c),
+        17 => say::word(out, b"no yes", read::bp_check(p, r, b, t) as u64),
+        18 => memory::dump(out, p, r, b, t, c),
+        20..=22 => partition::call(out, v, line, c),
         23 => say::value(
+            out,
             b"",
             number::bp_slots_for_budget(words::number_or(line, 1, 0)),
         ),
-        24 => bounded(line),
-        25 => any(line, p, r, b, t),
-        26 => say::listing(read::bp_iter_from(p, r, b, t, words::id_or(line, 2, 0))),
-        29 => marks::mark(line, p, r, b, t),
-        30 => marks::meet(line, c),
-        31 => many::get(line, p, r, b, t),
-        32 => many::rank(line, p, r, b, t),
-        33 => many::rank_if(line, p, r, b, t),
-        _ => say::answer(v, asks(v, words::id_or(line, 2, 0), p, r, b, t)),
+        24 => bounded(out, line),
+        25 => any(out, line, p, r, b, t),
+        26 => say::listing(
+            out,
+            read::bp_iter_from(p, r, b, t, words::id_or(line, 2, 0)),
+        ),
+        29 => marks::mark(out, line, p, r, b, t),
+        30 => marks::meet(out, line, c),
+        31 => many::get(out, line, p, r, b, t),
+        32 => many::rank(out, line, p, r, b, t),
+        33 => many::rank_if(out, line, p, r, b, t),
+        _ => say::answer(out, v, asks(v, words::id_or(line, 2, 0), p, r, b, t)),
     }
 }

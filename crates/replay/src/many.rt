@@ -4,7 +4,8 @@ ghost use Rattle.std.specs.Prelude.{◌≤◌};
 use exports::list;
 use lines::words;
 use replies::say;
-use std::num;
+use std::io::Stdout;
+use std::{io, num};
 
 // The ids, from word 2 on.
 fn ids(line: &[u8]) -> [i64; 8] {
@@ -29,35 +30,63 @@ fn many(line: &[u8]) -> usize
 }
 
 // `getall K id id ..`. Answers begin as neither, so that one that isn't written shows.
-pub fn get(line: &[u8], p: &[u64], r: &[u32], b: &[u32], t: &[u64]) {
+pub fn get(
+    out: &mut Stdout,
+    line: &[u8],
+    p: &[u64],
+    r: &[u32],
+    b: &[u32],
+    t: &[u64],
+) -> io::Result<()> {
     let n = many(line);
     let asked = ids(line);
     let mut answers = [7u8; 8];
     let a = list::bp_get_all(&asked[0..n], &mut answers, p, r, b, t);
-    say::marks(a, &answers, n);
+    say::marks(out, a, &answers, n)
 }
 
 // `rankall K id id ..`
-pub fn rank(line: &[u8], p: &[u64], r: &[u32], b: &[u32], t: &[u64]) {
+pub fn rank(
+    out: &mut Stdout,
+    line: &[u8],
+    p: &[u64],
+    r: &[u32],
+    b: &[u32],
+    t: &[u64],
+) -> io::Result<()> {
     let n = many(line);
     let asked = ids(line);
     let mut answers = [7u64; 8];
     let a = list::bp_rank_all(&asked[0..n], &mut answers, p, r, b, t);
-    say::ranks(a, &answers, n);
+    say::ranks(out, a, &answers, n)
 }
 
 // `rankifall K id id ..`
-pub fn rank_if(line: &[u8], p: &[u64], r: &[u32], b: &[u32], t: &[u64]) {
+pub fn rank_if(
+    out: &mut Stdout,
+    line: &[u8],
+    p: &[u64],
+    r: &[u32],
+    b: &[u32],
+    t: &[u64],
+) -> io::Result<()> {
     let n = many(line);
     let asked = ids(line);
     let mut answers = [7u64; 8];
     let a = list::bp_rank_if_set_all(&asked[0..n], &mut answers, p, r, b, t);
-    say::ranks(a, &answers, n);
+    say::ranks(out, a, &answers, n)
 }
 
 // `insertall K id id ..`
-pub fn insert(line: &[u8], p: &mut [u64], r: &mut [u32], b: &mut [u32], t: &mut [u64]) {
+pub fn insert(
+    out: &mut Stdout,
+    line: &[u8],
+    p: &mut [u64],
+    r: &mut [u32],
+    b: &mut [u32],
+    t: &mut [u64],
+) -> io::Result<()> {
     let n = many(line);
     let asked = ids(line);
-    say::inserted(list::bp_insert_all(&asked[0..n], p, r, b, t));
+    say::inserted(out, list::bp_insert_all(&asked[0..n], p, r, b, t))
 }

@@ -4,7 +4,8 @@ ghost use Rattle.std.specs.Prelude.{◌≤◌};
 use exports::ranges;
 use lines::words;
 use replies::{say, verb};
-use std::num;
+use std::io::Stdout;
+use std::{io, num};
 
 // One end of each range: every other word from word j on.
 fn ends(line: &[u8], j: u64) -> [i64; 8] {
@@ -29,17 +30,24 @@ fn many(line: &[u8], j: u64) -> usize
 }
 
 // `mark K low high low high ..`. Marks begin as set, so that one that isn't cleared shows.
-pub fn mark(line: &[u8], p: &[u64], r: &[u32], b: &[u32], t: &[u64]) {
+pub fn mark(
+    out: &mut Stdout,
+    line: &[u8],
+    p: &[u64],
+    r: &[u32],
+    b: &[u32],
+    t: &[u64],
+) -> io::Result<()> {
     let n = many(line, 2);
     let lows = ends(line, 2);
     let highs = ends(line, 3);
     let mut marks = [1u8; 8];
     let a = ranges::bp_mark_ends_by_range(&lows[0..n], &highs[0..n], &mut marks, p, r, b, t);
-    say::marks(a, &marks, n);
+    say::marks(out, a, &marks, n)
 }
 
 // `meet K total S n room k low high low high ..`
-pub fn meet(line: &[u8], c: &[i64]) {
+pub fn meet(out: &mut Stdout, line: &[u8], c: &[i64]) -> io::Result<()> {
     let n = many(line, 7);
     let lows = ends(line, 7);
     let highs = ends(line, 8);
@@ -56,5 +64,5 @@ pub fn meet(line: &[u8], c: &[i64]) {
         &c[0..room],
         q[4],
     );
-    say::marks(a, &marks, n);
+    say::marks(out, a, &marks, n)
 }

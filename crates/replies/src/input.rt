@@ -1,4 +1,6 @@
 // Standard input, a byte at a time.
+use std::io;
+use std::io::{Read, Stdin};
 
 // Where reading stands: of the bytes read those from `at` to before `end` are not used yet, and `n` bytes are kept of a line, 401 standing for too many.
 // `whole`: the line has ended. After a read, an `end` of 0 says that the input has.
@@ -35,15 +37,20 @@ pub fn line(text: &[u8], n: usize) -> &[u8] {
 }
 
 // A step further: a byte, or a read. At the end of the input what is kept is a line too.
-pub fn step(bytes: &mut [u8; 65536], text: &mut [u8; 400], now: Reading) -> Reading {
+pub fn step(
+    stdin: &mut Stdin,
+    bytes: &mut [u8; 65536],
+    text: &mut [u8; 400],
+    now: Reading,
+) -> io::Result<Reading> {
     let at = now.at;
     let n = if now.whole { 0 } else { now.n };
     if at < now.end {
         if at < 65536 {
             let b = bytes[at];
-            return stand(at + 1, now.end, keep(text, n, b), b == b'\n');
+            return Ok(stand(at + 1, now.end, keep(text, n, b), b == b'\n'));
         }
     }
-    let end = io::count(libc::read(0, bytes), bytes);
-    stand(0, end, n, (end == 0) & (0 < n))
+    let end = stdin.read(bytes)?;
+    Ok(stand(0, end, n, (end == 0) & (0 < n)))
 }

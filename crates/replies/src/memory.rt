@@ -2,6 +2,8 @@
 use crate::say;
 use crate::told::Told;
 use lines::{signs, words};
+use std::io;
+use std::io::Stdout;
 
 // One element of 64 bits. Answers 0, or 3 past the pool.
 pub fn put(pool: &mut [u64], i: usize, v: u64) -> u64 {
@@ -38,58 +40,73 @@ pub fn poke(line: &[u8], p: &mut [u64], r: &mut [u32], b: &mut [u32], t: &mut [u
 }
 
 // An element that is not 0, as `p7=12`; a space before it if there are some already. Answers whether there are now.
-fn element(some: bool, name: u8, i: usize, minus: bool, v: u64) -> bool {
+fn element(
+    out: &mut Stdout,
+    some: bool,
+    name: u8,
+    i: usize,
+    minus: bool,
+    v: u64,
+) -> io::Result<bool> {
     if v == 0 {
-        return some;
+        return Ok(some);
     }
     if some {
-        say::text(b" ");
+        say::text(out, b" ")?;
     }
-    say::number(&[name], i as u64);
+    say::number(out, &[name], i as u64)?;
     if minus {
-        say::number(b"=-", v);
+        say::number(out, b"=-", v)?;
     } else {
-        say::number(b"=", v);
+        say::number(out, b"=", v)?;
     }
-    true
+    Ok(true)
 }
 
-fn elements(some: bool, name: u8, pool: &[u64]) -> bool {
+fn elements(out: &mut Stdout, some: bool, name: u8, pool: &[u64]) -> io::Result<bool> {
     let mut now = some;
     let mut i: usize = 0;
     while i < pool.len() {
-        now = element(now, name, i, false, pool[i]);
+        now = element(out, now, name, i, false, pool[i])?;
         i += 1;
     }
-    now
+    Ok(now)
 }
 
-fn elements32(some: bool, name: u8, pool: &[u32]) -> bool {
+fn elements32(out: &mut Stdout, some: bool, name: u8, pool: &[u32]) -> io::Result<bool> {
     let mut now = some;
     let mut i: usize = 0;
     while i < pool.len() {
-        now = element(now, name, i, false, pool[i] as u64);
+        now = element(out, now, name, i, false, pool[i] as u64)?;
         i += 1;
     }
-    now
+    Ok(now)
 }
 
-fn boundaries(some: bool, c: &[i64]) {
+fn boundaries(out: &mut Stdout, some: bool, c: &[i64]) -> io::Result<()> {
     let mut now = some;
     let mut i: usize = 0;
     while i < c.len() {
         let z = c[i];
-        now = element(now, b'c', i, z < 0, signs::magnitude(z));
+        now = element(out, now, b'c', i, z < 0, signs::magnitude(z))?;
         i += 1;
     }
+    Ok(())
 }
 
 // `dump K`
-pub fn dump(p: &[u64], r: &[u32], b: &[u32], t: &[u64], c: &[i64]) {
-    let x = elements(false, b'p', p);
-    let y = elements32(x, b'r', r);
-    let z = elements32(y, b'b', b);
-    let w = elements(z, b't', t);
-    boundaries(w, c);
-    say::text(b"\n");
+pub fn dump(
+    out: &mut Stdout,
+    p: &[u64],
+    r: &[u32],
+    b: &[u32],
+    t: &[u64],
+    c: &[i64],
+) -> io::Result<()> {
+    let x = elements(out, false, b'p', p)?;
+    let y = elements32(out, x, b'r', r)?;
+    let z = elements32(out, y, b'b', b)?;
+    let w = elements(out, z, b't', t)?;
+    boundaries(out, w, c)?;
+    say::text(out, b"\n")
 }

@@ -3,210 +3,210 @@ use crate::told::Told;
 use codes::answer::DoneAnswer;
 use codes::cut::{IntervalAnswer, PlanAnswer, RanksAnswer};
 use document::answer::Listing;
-use libc::STDOUT_FILENO;
 use lines::{signs, words};
 use lists::insert::Inserted;
 use numbers::id as id_limits;
+use std::io;
+use std::io::{Stdout, Write};
 
-pub fn text(bytes: &[u8]) {
-    io::write_all(STDOUT_FILENO, bytes);
+pub fn text(out: &mut Stdout, bytes: &[u8]) -> io::Result<()> {
+    out.write_all(bytes)
 }
 
 // A number, after some text.
-pub fn number(before: &[u8], n: u64) {
-    text(before);
-    io::print_decimal(STDOUT_FILENO, n);
+pub fn number(out: &mut Stdout, before: &[u8], n: u64) -> io::Result<()> {
+    text(out, before)?;
+    write!(out, "{n}")
 }
 
 // An id, after some text.
-fn id(before: &[u8], z: i64) {
-    text(before);
+fn id(out: &mut Stdout, before: &[u8], z: i64) -> io::Result<()> {
+    text(out, before)?;
     if z < 0 {
-        text(b"-");
+        text(out, b"-")?;
     }
-    io::print_decimal(STDOUT_FILENO, signs::magnitude(z));
+    let n = signs::magnitude(z);
+    write!(out, "{n}")
 }
 
 // A line that ends in a number.
-pub fn value(before: &[u8], n: u64) {
-    number(before, n);
-    text(b"\n");
+pub fn value(out: &mut Stdout, before: &[u8], n: u64) -> io::Result<()> {
+    number(out, before, n)?;
+    text(out, b"\n")
 }
 
 // A line of an id.
-pub fn signed(z: i64) {
-    id(b"", z);
-    text(b"\n");
+pub fn signed(out: &mut Stdout, z: i64) -> io::Result<()> {
+    id(out, b"", z)?;
+    text(out, b"\n")
 }
 
 // A line of word k of some words.
-pub fn word(words: &[u8], k: u64) {
-    text(words::word(words, k));
-    text(b"\n");
+pub fn word(out: &mut Stdout, words: &[u8], k: u64) -> io::Result<()> {
+    text(out, words::word(words, k))?;
+    text(out, b"\n")
 }
 
-pub fn is(b: bool) {
-    word(b"false true", b as u64);
+pub fn is(out: &mut Stdout, b: bool) -> io::Result<()> {
+    word(out, b"false true", b as u64)
 }
 
 // What a call answers, by its verb: kind 2 is a refusal, and 3 stands for no call.
-pub fn answer(v: u64, a: Told) {
+pub fn answer(out: &mut Stdout, v: u64, a: Told) -> io::Result<()> {
     if a.kind == 2 {
-        value(b"refused ", a.value);
-        return;
+        return value(out, b"refused ", a.value);
     }
     if a.kind == 3 {
-        text(b"bad\n");
-        return;
+        return text(out, b"bad\n");
     }
     match v {
-        0..=5 => text(b"ok\n"),
-        6..=10 => word(b"false true", a.value),
+        0..=5 => text(out, b"ok\n"),
+        6..=10 => word(out, b"false true", a.value),
         _ => {
             if a.kind == 1 {
-                value(b"", a.value);
+                value(out, b"", a.value)
             } else {
-                text(b"none\n");
+                text(out, b"none\n")
             }
         }
     }
 }
 
 // The first n ids of some.
-fn ids(c: &[i64], n: u64) {
+fn ids(out: &mut Stdout, c: &[i64], n: u64) -> io::Result<()> {
     let mut i: usize = 0;
     while i < c.len() {
         if (i as u64) < n {
-            id(b" ", c[i]);
+            id(out, b" ", c[i])?;
         }
         i += 1;
     }
+    Ok(())
 }
 
 // A mark, a space before it if it is not the first.
-fn mark(i: usize, m: u8) {
+fn mark(out: &mut Stdout, i: usize, m: u8) -> io::Result<()> {
     if 0 < i {
-        text(b" ");
+        text(out, b" ")?;
     }
-    number(b"", m as u64);
+    number(out, b"", m as u64)
 }
 
 // The first n of some marks.
-fn first(marks: &[u8], n: usize) {
+fn first(out: &mut Stdout, marks: &[u8], n: usize) -> io::Result<()> {
     let mut i: usize = 0;
     while i < marks.len() {
         if i < n {
-            mark(i, marks[i]);
+            mark(out, i, marks[i])?;
         }
         i += 1;
     }
+    Ok(())
 }
 
 // A line of n marks.
-pub fn marks(a: DoneAnswer, marks: &[u8], n: usize) {
+pub fn marks(out: &mut Stdout, a: DoneAnswer, marks: &[u8], n: usize) -> io::Result<()> {
     if a.refusal != 0 {
-        value(b"refused ", a.refusal);
-        return;
+        return value(out, b"refused ", a.refusal);
     }
-    first(marks, n);
-    text(b"\n");
+    first(out, marks, n)?;
+    text(out, b"\n")
 }
 
 // A rank of a list, a space before it if it is not the first; 2^64 - 1 stands for none.
-fn rank(i: usize, n: u64) {
+fn rank(out: &mut Stdout, i: usize, n: u64) -> io::Result<()> {
     if 0 < i {
-        text(b" ");
+        text(out, b" ")?;
     }
     if n == u64::MAX {
-        text(b"none");
+        text(out, b"none")
     } else {
-        number(b"", n);
+        number(out, b"", n)
     }
 }
 
 // The first n of some ranks.
-fn few(ranks: &[u64], n: usize) {
+fn few(out: &mut Stdout, ranks: &[u64], n: usize) -> io::Result<()> {
     let mut i: usize = 0;
     while i < ranks.len() {
         if i < n {
-            rank(i, ranks[i]);
+            rank(out, i, ranks[i])?;
         }
         i += 1;
     }
+    Ok(())
 }
 
 // A line of n ranks.
-pub fn ranks(a: DoneAnswer, ranks: &[u64], n: usize) {
+pub fn ranks(out: &mut Stdout, a: DoneAnswer, ranks: &[u64], n: usize) -> io::Result<()> {
     if a.refusal != 0 {
-        value(b"refused ", a.refusal);
-        return;
+        return value(out, b"refused ", a.refusal);
     }
-    few(ranks, n);
-    text(b"\n");
+    few(out, ranks, n)?;
+    text(out, b"\n")
 }
 
 // How many ids were taken, how many of them were new, and what refused the next one.
-pub fn inserted(a: Inserted) {
-    number(b"", a.taken);
-    number(b" ", a.fresh);
+pub fn inserted(out: &mut Stdout, a: Inserted) -> io::Result<()> {
+    number(out, b"", a.taken)?;
+    number(out, b" ", a.fresh)?;
     if a.stop != 0 {
-        number(b" refused ", a.stop);
+        number(out, b" refused ", a.stop)?;
     }
-    text(b"\n");
+    text(out, b"\n")
 }
 
 // A record of iteration: count, end mark, next start, ids.
-pub fn listing(a: Listing) {
+pub fn listing(out: &mut Stdout, a: Listing) -> io::Result<()> {
     if a.refusal != 0 {
-        value(b"refused ", a.refusal);
-        return;
+        return value(out, b"refused ", a.refusal);
     }
-    number(b"", a.count);
-    text(b" ");
-    text(words::word(b"false true", a.end as u64));
-    id(b" ", a.next);
+    number(out, b"", a.count)?;
+    text(out, b" ")?;
+    text(out, words::word(b"false true", a.end as u64))?;
+    id(out, b" ", a.next)?;
     let listed = a.ids;
-    ids(&listed, a.count);
-    text(b"\n");
+    ids(out, &listed, a.count)?;
+    text(out, b"\n")
 }
 
 // A record, and its boundaries, one less than the partitions.
-pub fn plan(a: PlanAnswer, c: &[i64]) {
+pub fn plan(out: &mut Stdout, a: PlanAnswer, c: &[i64]) -> io::Result<()> {
     if a.refusal != 0 {
-        value(b"refused ", a.refusal);
-        return;
+        return value(out, b"refused ", a.refusal);
     }
-    number(b"", a.total);
-    number(b" ", a.slots);
-    number(b" ", a.partitions);
+    number(out, b"", a.total)?;
+    number(out, b" ", a.slots)?;
+    number(out, b" ", a.partitions)?;
     ids(
+        out,
         c,
         if a.partitions == 0 {
             0
         } else {
             a.partitions - 1
         },
-    );
-    text(b"\n");
+    )?;
+    text(out, b"\n")
 }
 
 // A partition's ends: `min` for the smallest i64, `end` for none.
-fn span(i: IntervalAnswer) {
+fn span(out: &mut Stdout, i: IntervalAnswer) -> io::Result<()> {
     if i.low == id_limits::SMALLEST {
-        text(b"min");
+        text(out, b"min")?;
     } else {
-        id(b"", i.low);
+        id(out, b"", i.low)?;
     }
     if i.has_high {
-        id(b" ", i.high);
+        id(out, b" ", i.high)
     } else {
-        text(b" end");
+        text(out, b" end")
     }
 }
 
 // A partition's ends, first rank and count.
-pub fn part(i: IntervalAnswer, k: RanksAnswer) {
-    span(i);
-    number(b" ", k.first);
-    value(b" ", k.count);
+pub fn part(out: &mut Stdout, i: IntervalAnswer, k: RanksAnswer) -> io::Result<()> {
+    span(out, i)?;
+    number(out, b" ", k.first)?;
+    value(out, b" ", k.count)
 }
