@@ -1,6 +1,5 @@
 pub mod AfterWalk
 pub mod Upto
+pub mod Records
 pub mod Columns
 pub mod Outcomes
-pub mod Told
-pub mod Loop
