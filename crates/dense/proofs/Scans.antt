@@ -1,21 +1,19 @@
 -- What a look at one word shows: its share of a count, and whether a range has a bit. Assumes nothing.
-use mathlib.Core.Path.{◌≡◌, refl, sym, ap, ◌∙◌, subst}
+use mathlib.Core.Path.{◌≡◌, refl, sym, ap, ◌∙◌}
 use mathlib.Core.Bool.{Bool, true, false, not}
 use mathlib.Core.List.{List}
 use Prim.Native.Nat.{ℕ, ◌+◌, ◌-◌, ◌*◌, ◌/◌, ◌%◌, ◌^◌, ◌≤◌, ◌<◌}
-use native.Mathlib.Nat.{div-one, mod-le, zero-mul, lt_of_le_of_lt}
+use native.Mathlib.Nat.{mod-le, zero-mul, lt_of_le_of_lt}
 use native.Mathlib.Omega.{arith}
 use lib.Count.{ones, ones-le, count_trailing_zeros, trailing_le}
 use lib.Dec.{eqb, ltb, lit<}
-use lib.ListN.{length, get_or}
-use lib.Pow.{shr_le, shr_lt}
+use lib.ListN.{get_or}
 use mir.Syntax.{w64}
 use mir.Val.{Fits}
 use borrow.Author.Tests.{eqb-true, eqb-false, lt-ltb, le-ltb, ltb-true, ltb-false}
-use Rattle.dense.specs.Bits.{digit, bit, bits_to, any_in}
-use Rattle.dense.proofs.Digits.{digit_over, digit_shr, ones_none, ones_zero, trailing_low, trailing_one, one_shl, shl_low, shl_none}
-use Rattle.dense.proofs.Bits.{bit_at}
-use Rattle.dense.proofs.Counts.{bits_le, bits_mono, bits_past, bits_field, bits_low, bits_high, bits_word}
+use Rattle.dense.specs.Bits.{bits_to, any_in}
+use Rattle.dense.proofs.Digits.{ones_none, ones_zero, one_shl, shl_low, shl_none}
+use Rattle.dense.proofs.Counts.{bits_le, bits_mono, bits_field, bits_low, bits_high, bits_word}
 
 ones_some : (w : ℕ) → (w ≡ 0 → ⊥) → 0 < ones w
 ones_some w n = go (ltb 0 (ones w)) refl

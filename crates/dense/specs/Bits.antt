@@ -1,5 +1,5 @@
 -- A bit map as words of 64 bits: its bits, their counts, and what each call leaves behind.
-use Rattle.std.specs.Prelude.{Bool, cond, List, [], ◌∷◌, ℕ, zero, suc, ◌+◌, ◌-◌, ◌*◌, ◌/◌, ◌%◌, ◌^◌, eqb, ltb, length, get_or, set}
+use Rattle.std.specs.Prelude.{Bool, List, [], ◌∷◌, ℕ, zero, suc, ◌+◌, ◌/◌, ◌%◌, ◌^◌, eqb, ltb, get_or, set}
 use Rattle.std.specs.Int.Bits.{bit_or}
 use Rattle.sums.specs.Sums.{sum_to}
 

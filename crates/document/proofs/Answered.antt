@@ -4,13 +4,12 @@ use mathlib.Core.Bool.{Bool, true, false, cond, ◌||◌}
 use Prim.Native.Nat.{ℕ}
 use native.Mathlib.Omega.{arith}
 use lib.IntN.{ℤ, pos, negsuc}
-use lib.Dec.{eqb}
 use borrow.Author.Tests.{eq-eqb}
 use Rattle.document.specs.State.{State}
 use Rattle.document.specs.Refusals.{is_ranked, is_open}
 use Rattle.document.specs.Insert.{done, new_answer, prepared_answer, inserted}
 use Rattle.document.specs.Prepare.{prepare_answer, readied}
-use Rattle.document.specs.Calls.{Call, insert, put, prepared, prepare, rank_up, leave, Said, whether, that, many, maybe, Refuses}
+use Rattle.document.specs.Calls.{Call, insert, put, prepared, prepare, rank_up, leave, whether, that, many, maybe, Refuses}
 use Rattle.document.specs.Calls.{Ask, get, range_test, chunk_id, len, is_empty, has_any, chunk_count, iterate, rank_of, rank_if_set, total_count, check}
 use Rattle.document.specs.Answers.{rank_up_answer, leave_answer, answer, in_mode, after, chunks_in, rank_answer, rank_if_answer, total_answer, reply}
 use Rattle.document.specs.declared.answer.Outcome.{Outcome}

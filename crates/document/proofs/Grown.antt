@@ -1,13 +1,12 @@
 -- Chunks that get a new member, on both sides of m; a negative id and a member. Assumes nothing.
-use mathlib.Core.Path.{◌≡◌, refl, ap, ◌∙◌}
+use mathlib.Core.Path.{◌≡◌, refl, ap}
 use mathlib.Core.Bool.{Bool, true, false, cond}
-use Prim.Native.Nat.{ℕ, suc, ◌+◌, ◌<◌}
+use Prim.Native.Nat.{ℕ, ◌<◌}
 use native.Mathlib.Omega.{arith}
 use lib.IntN.{ℤ, pos, negsuc}
 use borrow.Author.Tests.{lt-ltb, le-ltb}
-use Rattle.document.specs.State.{Kind, absent, sparse, dense, State}
+use Rattle.document.specs.State.{absent, sparse, dense, State}
 use Rattle.document.specs.Insert.{grown, new_answer}
-use Rattle.document.specs.declared.answer.Truth.{Truth}
 use Rattle.document.specs.declared.answer.Truth.TheVariants.{Is, Refused}
 
 -- an absent chunk starts sparse; a sparse one stays so below m members and becomes dense at m; a dense one stays

@@ -2,7 +2,6 @@
 use mathlib.Core.Path.{◌≡◌, refl}
 use mathlib.Core.Bool.{Bool, true, false, ◌||◌}
 use Prim.Native.Nat.{ℕ}
-use Rattle.sums.specs.Ids.{Ids}
 use Rattle.document.specs.State.{State, empty}
 use Rattle.document.specs.Union.{either, union_map, united}
 use Rattle.document.specs.declared.sizes.Sizes.{Sizes}

@@ -1,5 +1,5 @@
 -- Planning for S: the answer, and the boundaries after it.
-use Rattle.std.specs.Prelude.{◌≡◌, ℕ, suc, ◌-◌, ◌*◌, ◌<◌, ◌≤◌, List, Bool, cond, ℤ, pos, length, get_or, ltb}
+use Rattle.std.specs.Prelude.{◌≡◌, ℕ, suc, ◌-◌, ◌*◌, ◌<◌, ◌≤◌, List, cond, ℤ, pos, length, get_or, ltb}
 use Rattle.sums.specs.Ids.{total}
 use Rattle.sums.specs.Cuts.{size, parts, Least}
 use Rattle.document.specs.State.{State}

@@ -1,5 +1,5 @@
 -- `pre_allocate`: the answer, and the set after it.
-use Rattle.std.specs.Prelude.{ℕ, ◌/◌, Bool, true, cond, leb, ℤ, pos, negsuc}
+use Rattle.std.specs.Prelude.{ℕ, ◌/◌, true, cond, leb, ℤ, pos, negsuc}
 use Rattle.document.specs.Sizes.{top}
 use Rattle.document.specs.State.{Kind, dense, State}
 use Rattle.document.specs.Refusals.{is_ranked}

@@ -1,5 +1,5 @@
 -- What a map of kinds needs, and refusals 6, 7, 8 on the map after the call.
-use Rattle.std.specs.Prelude.{ℕ, Bool, cond, ◌&&◌, leb, ltb}
+use Rattle.std.specs.Prelude.{ℕ, cond, ◌&&◌, leb, ltb}
 use Rattle.sums.specs.Ids.{count}
 use Rattle.document.specs.Sizes.{last_chunk}
 use Rattle.document.specs.State.{Kind, is_present, is_sparse, is_dense}

@@ -1,7 +1,7 @@
 -- The intervals of a plan record and its boundaries, which come from the caller.
-use Rattle.std.specs.Prelude.{ℕ, ◌+◌, ◌-◌, ◌*◌, ◌^◌, min, List, Bool, true, cond, not, ◌&&◌, ℤ, pos, negsuc, length, get_or, leb, ltb, eqb}
+use Rattle.std.specs.Prelude.{ℕ, ◌+◌, ◌-◌, ◌*◌, ◌^◌, min, List, Bool, cond, not, ◌&&◌, ℤ, pos, negsuc, length, get_or, leb, ltb, eqb}
 use Rattle.std.specs.Int.Signed.{le_z, lt_z}
-use Rattle.sums.specs.Cuts.{parts, Interval, End, before, none, inside}
+use Rattle.sums.specs.Cuts.{parts, Interval, before, none, inside}
 use Rattle.document.specs.Refusals.{not_laid_out, no_partition}
 use Rattle.document.specs.declared.plan.Plan.{Plan}
 use Rattle.document.specs.declared.plan.Span.{Span}

@@ -1,5 +1,5 @@
 -- The directory as one run of entries: the D direct ones, then the overflow entries in use.
-use Rattle.std.specs.Prelude.{ℕ, ◌+◌, ◌*◌, ◌-◌, List, Bool, cond, get_or, ltb, eqb}
+use Rattle.std.specs.Prelude.{ℕ, ◌+◌, ◌-◌, List, cond, get_or, ltb, eqb}
 use Rattle.layout.specs.Sizes.{direct_at, over_at, over_count}
 use Rattle.layout.specs.Places.{decoded}
 use Rattle.document.specs.declared.sizes.Sizes.{Sizes}

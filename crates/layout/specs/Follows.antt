@@ -1,5 +1,5 @@
 -- The layout rule: the numbered sentences of docs/LAYOUT.md, in their order.
-use Rattle.std.specs.Prelude.{◌≡◌, ◌≢◌, ℕ, ◌+◌, ◌*◌, ◌-◌, ◌^◌, ◌≤◌, ◌<◌, List, Bool, cond, not, get_or, eqb}
+use Rattle.std.specs.Prelude.{◌≡◌, ◌≢◌, ℕ, ◌+◌, ◌*◌, ◌-◌, ◌≤◌, ◌<◌, List, cond, not, get_or, eqb}
 use Rattle.sums.specs.Sums.{sum_to}
 use Rattle.sums.specs.Ids.{count}
 use Rattle.dense.specs.Bits.{bits_to}

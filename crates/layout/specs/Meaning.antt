@@ -1,5 +1,5 @@
 -- What memory stands for: the plain set, the map of chunks, the mode.
-use Rattle.std.specs.Prelude.{ℕ, ◌/◌, ◌%◌, Bool, true, false, eqb}
+use Rattle.std.specs.Prelude.{ℕ, ◌/◌, ◌%◌, Bool, false, eqb}
 use Rattle.sums.specs.Ids.{Ids}
 use Rattle.sparse.specs.Row.{row_of, member}
 use Rattle.dense.specs.Bits.{is_set}

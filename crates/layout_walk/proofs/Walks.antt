@@ -14,7 +14,7 @@ use Rattle.document.specs.Sizes.{InRange, last_chunk}
 use Rattle.layout.specs.Sizes.{over_at, table_size, head, mode_at, over_count, rows_from, pages_from}
 use Rattle.layout.specs.Free.{first_free}
 use Rattle.layout.specs.Places.{row_owner, page_owner}
-use Rattle.layout.specs.Entries.{entries, chunk_at, place_at}
+use Rattle.layout.specs.Entries.{chunk_at, place_at}
 use Rattle.layout.specs.Tests.{in_range, room_in, zeros, key_is, word_is, owned_is, place_is, froms_are, head_is, over_is, table_is, walked}
 use Rattle.document.specs.declared.sizes.Sizes.{Sizes}
 use Rattle.layout.specs.declared.place.Place.{Place}

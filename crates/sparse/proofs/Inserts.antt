@@ -9,7 +9,7 @@ use lib.Dec.{ltb, eqb}
 use lib.ListN.{length}
 use mir.Val.{bool_byte}
 use Rattle.sums.specs.Ids.{count}
-use Rattle.sums.proofs.Sums.{last_or, Inserted, sum_insert}
+use Rattle.sums.proofs.Sums.{Inserted, sum_insert}
 use Rattle.sparse.specs.Row.{Row, row_of, member, below_of, Rising}
 use Rattle.sparse.specs.Edit.{inserted_at}
 use Rattle.sparse.specs.Search.{search_in}

@@ -4,6 +4,7 @@ use seplogic.Ra.Ura.{Ura}
 use prog.Memory.{Memory}
 use prog.Routine.{Routine}
 use prog.Model.{Model}
+use prog.Wired.{Wired}
 use base.Logic.{SProp}
 use types.Logic.{Logic}
 use contract.Monad.{Fun}
@@ -22,7 +23,7 @@ use Rattle.range_list.specs.Marks.{MarksByRange, MarksByPartition, EndsByRange, 
 use Rattle.lists.specs.Lists as listwise
 use Rattle.lists.specs.Lists.{AnswersAll}
 use Rattle.lists.specs.Inserts.{InsertsAll}
-use Rattle.ties.proofs.Ensures.{four, two, Ensures}
+use Rattle.ties.proofs.Ensures.{four, lent, half, two, Ensures}
 use Rattle.idset.specs.contracts.setup.set_up as set_up
 use Rattle.inserts.specs.contracts.insert.set_if_new as set_if_new
 use Rattle.inserts.specs.contracts.insert.set as set
@@ -139,31 +140,31 @@ module _ {M : Type 1} {𝓤 : Ura M} (𝓛 : Logic 𝓤) where
   open 𝓛 use {H}
 
   module _ (m : Memory → SProp 𝓤) (run : Routine → Fun 𝓤) where
-    pub set_up_is : set_up.spec 𝓛 m run ≡ Ensures 𝓛 set_up.ended (λ κs a r e. SetsUp (sizes_of a.0 a.1.0 a.1.1.0 a.1.1.1.0 a.1.1.1.1.0 a.1.1.1.1.1.0) (four a.1.1.1.1.1.1) r (four e.1.1.1.1.1.1))
+    pub set_up_is : set_up.spec 𝓛 m run ≡ Ensures 𝓛 set_up.ended (λ κs a r e. SetsUp (sizes_of a.0 a.1.0 a.1.1.0 a.1.1.1.0 a.1.1.1.1.0 a.1.1.1.1.1.0) (lent a.1.1.1.1.1.1) r (lent e.1.1.1.1.1.1))
     set_up_is = refl
 
-    pub set_if_new_is : set_if_new.spec 𝓛 m run ≡ Ensures 𝓛 set_if_new.ended (λ κs a r e. Does (four a) (calls.insert a.1.1.1.1.0) (whether r) (four e))
+    pub set_if_new_is : set_if_new.spec 𝓛 m run ≡ Ensures 𝓛 set_if_new.ended (λ κs a r e. Does (lent a) (calls.insert a.1.1.1.1.0) (whether r) (lent e))
     set_if_new_is = refl
 
-    pub set_is : set.spec 𝓛 m run ≡ Ensures 𝓛 set.ended (λ κs a r e. Does (four a) (calls.put a.1.1.1.1.0) (that r) (four e))
+    pub set_is : set.spec 𝓛 m run ≡ Ensures 𝓛 set.ended (λ κs a r e. Does (lent a) (calls.put a.1.1.1.1.0) (that r) (lent e))
     set_is = refl
 
-    pub set_prepared_is : set_prepared.spec 𝓛 m run ≡ Ensures 𝓛 set_prepared.ended (λ κs a r e. Does (four a) (calls.prepared a.1.1.1.1.0) (whether r) (four e))
+    pub set_prepared_is : set_prepared.spec 𝓛 m run ≡ Ensures 𝓛 set_prepared.ended (λ κs a r e. Does (lent a) (calls.prepared a.1.1.1.1.0) (whether r) (lent e))
     set_prepared_is = refl
 
-    pub pre_allocate_is : pre_allocate.spec 𝓛 m run ≡ Ensures 𝓛 pre_allocate.ended (λ κs a r e. Does (four a) (calls.prepare a.1.1.1.1.0) (that r) (four e))
+    pub pre_allocate_is : pre_allocate.spec 𝓛 m run ≡ Ensures 𝓛 pre_allocate.ended (λ κs a r e. Does (lent a) (calls.prepare a.1.1.1.1.0) (that r) (lent e))
     pre_allocate_is = refl
 
-    pub merge_from_is : merge_from.spec 𝓛 m run ≡ Ensures 𝓛 merge_from.ended (λ κs a r e. Joins (four a) (four a.1.1.1.1) union.merge_from r (four e) (four a.1.1.1.1))
+    pub merge_from_is : merge_from.spec 𝓛 m run ≡ Ensures 𝓛 merge_from.ended (λ κs a r e. Joins (lent a) (four a.1.1.1.1) union.merge_from r (lent e) (four a.1.1.1.1))
     merge_from_is = refl
 
-    pub merge_is : merge.spec 𝓛 m run ≡ Ensures 𝓛 merge.ended (λ κs a r e. Joins (four a) (four a.1.1.1.1) union.merge r (four e) (four e.1.1.1.1))
+    pub merge_is : merge.spec 𝓛 m run ≡ Ensures 𝓛 merge.ended (λ κs a r e. Joins (lent a) (lent a.1.1.1.1) union.merge r (lent e) (lent e.1.1.1.1))
     merge_is = refl
 
-    pub into_ranked_is : into_ranked.spec 𝓛 m run ≡ Ensures 𝓛 into_ranked.ended (λ κs a r e. Does (four a) calls.rank_up (that r) (two a e))
+    pub into_ranked_is : into_ranked.spec 𝓛 m run ≡ Ensures 𝓛 into_ranked.ended (λ κs a r e. Does (half a) calls.rank_up (that r) (two a e))
     into_ranked_is = refl
 
-    pub into_open_is : leaving.spec 𝓛 m run ≡ Ensures 𝓛 leaving.ended (λ κs a r e. Does (four a) calls.leave (that r) (two a e))
+    pub into_open_is : leaving.spec 𝓛 m run ≡ Ensures 𝓛 leaving.ended (λ κs a r e. Does (half a) calls.leave (that r) (two a e))
     into_open_is = refl
 
     pub get_is : get.spec 𝓛 m run ≡ Ensures 𝓛 get.ended (λ κs a r e. Answers (four a) (calls.get a.1.1.1.1.0) (whether r))
@@ -241,7 +242,7 @@ module _ {M : Type 1} {𝓤 : Ura M} (𝓛 : Logic 𝓤) where
     pub rank_if_set_all_is : rank_if_set_all.spec 𝓛 m run ≡ Ensures 𝓛 rank_if_set_all.ended (λ κs a r e. AnswersAll (four a.1.1) listwise.rank_if_all a.0.now a.1.0.now r e.1.0.now)
     rank_if_set_all_is = refl
 
-    pub insert_all_is : insertAll.spec 𝓛 m run ≡ Ensures 𝓛 insertAll.ended (λ κs a r e. InsertsAll (four a.1) a.0.now r (four e.1))
+    pub insert_all_is : insertAll.spec 𝓛 m run ≡ Ensures 𝓛 insertAll.ended (λ κs a r e. InsertsAll (lent a.1) a.0.now r (lent e.1))
     insert_all_is = refl
 
     pub slots_for_budget_is : budgeting.spec 𝓛 m run ≡ Ensures 𝓛 budgeting.ended (λ κs a r e. r ≡ slots_for_budget a.0)
@@ -251,150 +252,150 @@ module _ {M : Type 1} {𝓤 : Ura M} (𝓛 : Logic 𝓤) where
     file_bounded_max_id_is = refl
 
   module _ (𝓜 : Model 𝓤 H) (𝓡 : Running 𝓤 H 𝓜) where
-    pub set_up_meets : Meets 𝓛 set_up.signature (𝓡.run set_up-at.routine)
-        (Ensures 𝓛 set_up.ended (λ κs a r e. SetsUp (sizes_of a.0 a.1.0 a.1.1.0 a.1.1.1.0 a.1.1.1.1.0 a.1.1.1.1.1.0) (four a.1.1.1.1.1.1) r (four e.1.1.1.1.1.1)))
+    pub set_up_meets : Wired 𝓡.env set_up-at.code → Meets 𝓛 set_up.signature (𝓡.run (𝓡.env set_up-at.name))
+        (Ensures 𝓛 set_up.ended (λ κs a r e. SetsUp (sizes_of a.0 a.1.0 a.1.1.0 a.1.1.1.0 a.1.1.1.1.0 a.1.1.1.1.1.0) (lent a.1.1.1.1.1.1) r (lent e.1.1.1.1.1.1)))
     set_up_meets = set_up-met.met 𝓤 𝓛 𝓜 𝓡
 
-    pub set_if_new_meets : Meets 𝓛 set_if_new.signature (𝓡.run set_if_new-at.routine)
-        (Ensures 𝓛 set_if_new.ended (λ κs a r e. Does (four a) (calls.insert a.1.1.1.1.0) (whether r) (four e)))
+    pub set_if_new_meets : Wired 𝓡.env set_if_new-at.code → Meets 𝓛 set_if_new.signature (𝓡.run (𝓡.env set_if_new-at.name))
+        (Ensures 𝓛 set_if_new.ended (λ κs a r e. Does (lent a) (calls.insert a.1.1.1.1.0) (whether r) (lent e)))
     set_if_new_meets = set_if_new-met.met 𝓤 𝓛 𝓜 𝓡
 
-    pub set_meets : Meets 𝓛 set.signature (𝓡.run set_at.routine)
-        (Ensures 𝓛 set.ended (λ κs a r e. Does (four a) (calls.put a.1.1.1.1.0) (that r) (four e)))
+    pub set_meets : Wired 𝓡.env set_at.code → Meets 𝓛 set.signature (𝓡.run (𝓡.env set_at.name))
+        (Ensures 𝓛 set.ended (λ κs a r e. Does (lent a) (calls.put a.1.1.1.1.0) (that r) (lent e)))
     set_meets = set-met.met 𝓤 𝓛 𝓜 𝓡
 
-    pub set_prepared_meets : Meets 𝓛 set_prepared.signature (𝓡.run set_prepared-at.routine)
-        (Ensures 𝓛 set_prepared.ended (λ κs a r e. Does (four a) (calls.prepared a.1.1.1.1.0) (whether r) (four e)))
+    pub set_prepared_meets : Wired 𝓡.env set_prepared-at.code → Meets 𝓛 set_prepared.signature (𝓡.run (𝓡.env set_prepared-at.name))
+        (Ensures 𝓛 set_prepared.ended (λ κs a r e. Does (lent a) (calls.prepared a.1.1.1.1.0) (whether r) (lent e)))
     set_prepared_meets = set_prepared-met.met 𝓤 𝓛 𝓜 𝓡
 
-    pub pre_allocate_meets : Meets 𝓛 pre_allocate.signature (𝓡.run pre_allocate-at.routine)
-        (Ensures 𝓛 pre_allocate.ended (λ κs a r e. Does (four a) (calls.prepare a.1.1.1.1.0) (that r) (four e)))
+    pub pre_allocate_meets : Wired 𝓡.env pre_allocate-at.code → Meets 𝓛 pre_allocate.signature (𝓡.run (𝓡.env pre_allocate-at.name))
+        (Ensures 𝓛 pre_allocate.ended (λ κs a r e. Does (lent a) (calls.prepare a.1.1.1.1.0) (that r) (lent e)))
     pre_allocate_meets = pre_allocate-met.met 𝓤 𝓛 𝓜 𝓡
 
-    pub merge_from_meets : Meets 𝓛 merge_from.signature (𝓡.run merge_from-at.routine)
-        (Ensures 𝓛 merge_from.ended (λ κs a r e. Joins (four a) (four a.1.1.1.1) union.merge_from r (four e) (four a.1.1.1.1)))
+    pub merge_from_meets : Wired 𝓡.env merge_from-at.code → Meets 𝓛 merge_from.signature (𝓡.run (𝓡.env merge_from-at.name))
+        (Ensures 𝓛 merge_from.ended (λ κs a r e. Joins (lent a) (four a.1.1.1.1) union.merge_from r (lent e) (four a.1.1.1.1)))
     merge_from_meets = merge_from-met.met 𝓤 𝓛 𝓜 𝓡
 
-    pub merge_meets : Meets 𝓛 merge.signature (𝓡.run merge-at.routine)
-        (Ensures 𝓛 merge.ended (λ κs a r e. Joins (four a) (four a.1.1.1.1) union.merge r (four e) (four e.1.1.1.1)))
+    pub merge_meets : Wired 𝓡.env merge-at.code → Meets 𝓛 merge.signature (𝓡.run (𝓡.env merge-at.name))
+        (Ensures 𝓛 merge.ended (λ κs a r e. Joins (lent a) (lent a.1.1.1.1) union.merge r (lent e) (lent e.1.1.1.1)))
     merge_meets = merge-met.met 𝓤 𝓛 𝓜 𝓡
 
-    pub into_ranked_meets : Meets 𝓛 into_ranked.signature (𝓡.run into_ranked-at.routine)
-        (Ensures 𝓛 into_ranked.ended (λ κs a r e. Does (four a) calls.rank_up (that r) (two a e)))
+    pub into_ranked_meets : Wired 𝓡.env into_ranked-at.code → Meets 𝓛 into_ranked.signature (𝓡.run (𝓡.env into_ranked-at.name))
+        (Ensures 𝓛 into_ranked.ended (λ κs a r e. Does (half a) calls.rank_up (that r) (two a e)))
     into_ranked_meets = into_ranked-met.met 𝓤 𝓛 𝓜 𝓡
 
-    pub into_open_meets : Meets 𝓛 leaving.signature (𝓡.run leaving-at.routine)
-        (Ensures 𝓛 leaving.ended (λ κs a r e. Does (four a) calls.leave (that r) (two a e)))
+    pub into_open_meets : Wired 𝓡.env leaving-at.code → Meets 𝓛 leaving.signature (𝓡.run (𝓡.env leaving-at.name))
+        (Ensures 𝓛 leaving.ended (λ κs a r e. Does (half a) calls.leave (that r) (two a e)))
     into_open_meets = leaving-met.met 𝓤 𝓛 𝓜 𝓡
 
-    pub get_meets : Meets 𝓛 get.signature (𝓡.run get_at.routine)
+    pub get_meets : Wired 𝓡.env get_at.code → Meets 𝓛 get.signature (𝓡.run (𝓡.env get_at.name))
         (Ensures 𝓛 get.ended (λ κs a r e. Answers (four a) (calls.get a.1.1.1.1.0) (whether r)))
     get_meets = get-met.met 𝓤 𝓛 𝓜 𝓡
 
-    pub chunk_of_meets : Meets 𝓛 chunk_of.signature (𝓡.run chunkOf-at.routine)
+    pub chunk_of_meets : Wired 𝓡.env chunkOf-at.code → Meets 𝓛 chunk_of.signature (𝓡.run (𝓡.env chunkOf-at.name))
         (Ensures 𝓛 chunk_of.ended (λ κs a r e. Answers (four a) (calls.chunk_id a.1.1.1.1.0) (maybe r)))
     chunk_of_meets = chunkOf-met.met 𝓤 𝓛 𝓜 𝓡
 
-    pub any_in_range_meets : Meets 𝓛 ranging.signature (𝓡.run ranging-at.routine)
+    pub any_in_range_meets : Wired 𝓡.env ranging-at.code → Meets 𝓛 ranging.signature (𝓡.run (𝓡.env ranging-at.name))
         (Ensures 𝓛 ranging.ended (λ κs a r e. Answers (four a) (calls.range_test a.1.1.1.1.0 a.1.1.1.1.1.0) (whether r)))
     any_in_range_meets = ranging-met.met 𝓤 𝓛 𝓜 𝓡
 
-    pub iter_from_meets : Meets 𝓛 iter_from.signature (𝓡.run iter_from-at.routine)
+    pub iter_from_meets : Wired 𝓡.env iter_from-at.code → Meets 𝓛 iter_from.signature (𝓡.run (𝓡.env iter_from-at.name))
         (Ensures 𝓛 iter_from.ended (λ κs a r e. Answers (four a) (calls.iterate a.1.1.1.1.0) (listed r)))
     iter_from_meets = iter_from-met.met 𝓤 𝓛 𝓜 𝓡
 
-    pub len_meets : Meets 𝓛 len.signature (𝓡.run len-at.routine)
+    pub len_meets : Wired 𝓡.env len-at.code → Meets 𝓛 len.signature (𝓡.run (𝓡.env len-at.name))
         (Ensures 𝓛 len.ended (λ κs a r e. Answers (four a) calls.len (many r)))
     len_meets = len-met.met 𝓤 𝓛 𝓜 𝓡
 
-    pub is_empty_meets : Meets 𝓛 is_empty.signature (𝓡.run isEmpty-at.routine)
+    pub is_empty_meets : Wired 𝓡.env isEmpty-at.code → Meets 𝓛 is_empty.signature (𝓡.run (𝓡.env isEmpty-at.name))
         (Ensures 𝓛 is_empty.ended (λ κs a r e. Answers (four a) calls.is_empty (whether r)))
     is_empty_meets = isEmpty-met.met 𝓤 𝓛 𝓜 𝓡
 
-    pub has_any_meets : Meets 𝓛 has_any.signature (𝓡.run has_any-at.routine)
+    pub has_any_meets : Wired 𝓡.env has_any-at.code → Meets 𝓛 has_any.signature (𝓡.run (𝓡.env has_any-at.name))
         (Ensures 𝓛 has_any.ended (λ κs a r e. Answers (four a) calls.has_any (whether r)))
     has_any_meets = has_any-met.met 𝓤 𝓛 𝓜 𝓡
 
-    pub allocated_chunk_count_meets : Meets 𝓛 allocated_chunk_count.signature (𝓡.run allocated_chunk_count-at.routine)
+    pub allocated_chunk_count_meets : Wired 𝓡.env allocated_chunk_count-at.code → Meets 𝓛 allocated_chunk_count.signature (𝓡.run (𝓡.env allocated_chunk_count-at.name))
         (Ensures 𝓛 allocated_chunk_count.ended (λ κs a r e. Answers (four a) calls.chunk_count (many r)))
     allocated_chunk_count_meets = allocated_chunk_count-met.met 𝓤 𝓛 𝓜 𝓡
 
-    pub rank_meets : Meets 𝓛 rank.signature (𝓡.run rank_at.routine)
+    pub rank_meets : Wired 𝓡.env rank_at.code → Meets 𝓛 rank.signature (𝓡.run (𝓡.env rank_at.name))
         (Ensures 𝓛 rank.ended (λ κs a r e. Answers (four a) (calls.rank_of a.1.1.1.1.0) (many r)))
     rank_meets = rank-met.met 𝓤 𝓛 𝓜 𝓡
 
-    pub rank_if_set_meets : Meets 𝓛 rank_if_set.signature (𝓡.run rank_if_set-at.routine)
+    pub rank_if_set_meets : Wired 𝓡.env rank_if_set-at.code → Meets 𝓛 rank_if_set.signature (𝓡.run (𝓡.env rank_if_set-at.name))
         (Ensures 𝓛 rank_if_set.ended (λ κs a r e. Answers (four a) (calls.rank_if_set a.1.1.1.1.0) (maybe r)))
     rank_if_set_meets = rank_if_set-met.met 𝓤 𝓛 𝓜 𝓡
 
-    pub total_count_meets : Meets 𝓛 total_count.signature (𝓡.run total_count-at.routine)
+    pub total_count_meets : Wired 𝓡.env total_count-at.code → Meets 𝓛 total_count.signature (𝓡.run (𝓡.env total_count-at.name))
         (Ensures 𝓛 total_count.ended (λ κs a r e. Answers (four a) calls.total_count (many r)))
     total_count_meets = total_count-met.met 𝓤 𝓛 𝓜 𝓡
 
-    pub check_meets : Meets 𝓛 check.signature (𝓡.run check-at.routine)
+    pub check_meets : Wired 𝓡.env check-at.code → Meets 𝓛 check.signature (𝓡.run (𝓡.env check-at.name))
         (Ensures 𝓛 check.ended (λ κs a r e. Answers (four a) calls.check (whether (Is r))))
     check_meets = check-met.met 𝓤 𝓛 𝓜 𝓡
 
-    pub plan_meets : Meets 𝓛 plan.signature (𝓡.run plan_at.routine)
+    pub plan_meets : Wired 𝓡.env plan_at.code → Meets 𝓛 plan.signature (𝓡.run (𝓡.env plan_at.name))
         (Ensures 𝓛 plan.ended (λ κs a r e. Plans (four a) a.1.1.1.1.0 a.1.1.1.1.1.0.now r e.1.1.1.1.1.0.now))
     plan_meets = plan-met.met 𝓤 𝓛 𝓜 𝓡
 
-    pub partitions_meets : Meets 𝓛 partitions.signature (𝓡.run partitions-at.routine)
+    pub partitions_meets : Wired 𝓡.env partitions-at.code → Meets 𝓛 partitions.signature (𝓡.run (𝓡.env partitions-at.name))
         (Ensures 𝓛 partitions.ended (λ κs a r e. r ≡ a.0.partitions))
     partitions_meets = partitions-met.met 𝓤 𝓛 𝓜 𝓡
 
-    pub ids_meets : Meets 𝓛 ids.signature (𝓡.run ids_at.routine)
+    pub ids_meets : Wired 𝓡.env ids_at.code → Meets 𝓛 ids.signature (𝓡.run (𝓡.env ids_at.name))
         (Ensures 𝓛 ids.ended (λ κs a r e. r ≡ ids_answer a.0 a.1.0.now a.1.1.0))
     ids_meets = ids-met.met 𝓤 𝓛 𝓜 𝓡
 
-    pub ranks_meets : Meets 𝓛 ranks.signature (𝓡.run ranks_at.routine)
+    pub ranks_meets : Wired 𝓡.env ranks_at.code → Meets 𝓛 ranks.signature (𝓡.run (𝓡.env ranks_at.name))
         (Ensures 𝓛 ranks.ended (λ κs a r e. r ≡ ranks_answer a.0 a.1.0))
     ranks_meets = ranks-met.met 𝓤 𝓛 𝓜 𝓡
 
-    pub in_partition_meets : Meets 𝓛 within.signature (𝓡.run within-at.routine)
+    pub in_partition_meets : Wired 𝓡.env within-at.code → Meets 𝓛 within.signature (𝓡.run (𝓡.env within-at.name))
         (Ensures 𝓛 within.ended (λ κs a r e. r ≡ in_partition a.0 a.1.0))
     in_partition_meets = within-met.met 𝓤 𝓛 𝓜 𝓡
 
-    pub range_meets_meets : Meets 𝓛 meeting.signature (𝓡.run meeting-at.routine)
+    pub range_meets_meets : Wired 𝓡.env meeting-at.code → Meets 𝓛 meeting.signature (𝓡.run (𝓡.env meeting-at.name))
         (Ensures 𝓛 meeting.ended (λ κs a r e. r ≡ range_meets a.0 a.1.0 a.1.1.0))
     range_meets_meets = meeting-met.met 𝓤 𝓛 𝓜 𝓡
 
-    pub mark_by_range_meets : Meets 𝓛 mark_by_range.signature (𝓡.run mark_by_range-at.routine)
+    pub mark_by_range_meets : Wired 𝓡.env mark_by_range-at.code → Meets 𝓛 mark_by_range.signature (𝓡.run (𝓡.env mark_by_range-at.name))
         (Ensures 𝓛 mark_by_range.ended (λ κs a r e. MarksByRange (four a.1) a.0.now r e.0.now))
     mark_by_range_meets = mark_by_range-met.met 𝓤 𝓛 𝓜 𝓡
 
-    pub mark_by_partition_meets : Meets 𝓛 mark_by_partition.signature (𝓡.run mark_by_partition-at.routine)
+    pub mark_by_partition_meets : Wired 𝓡.env mark_by_partition-at.code → Meets 𝓛 mark_by_partition.signature (𝓡.run (𝓡.env mark_by_partition-at.name))
         (Ensures 𝓛 mark_by_partition.ended (λ κs a r e. MarksByPartition (ids_answer a.1.0 a.1.1.0.now a.1.1.1.0) a.0.now r e.0.now))
     mark_by_partition_meets = mark_by_partition-met.met 𝓤 𝓛 𝓜 𝓡
 
-    pub mark_ends_by_range_meets : Meets 𝓛 mark_ends_by_range.signature (𝓡.run mark_ends_by_range-at.routine)
+    pub mark_ends_by_range_meets : Wired 𝓡.env mark_ends_by_range-at.code → Meets 𝓛 mark_ends_by_range.signature (𝓡.run (𝓡.env mark_ends_by_range-at.name))
         (Ensures 𝓛 mark_ends_by_range.ended (λ κs a r e. EndsByRange (four a.1.1.1) a.0.now a.1.0.now a.1.1.0.now r e.1.1.0.now))
     mark_ends_by_range_meets = mark_ends_by_range-met.met 𝓤 𝓛 𝓜 𝓡
 
-    pub mark_ends_by_partition_meets : Meets 𝓛 mark_ends_by_partition.signature (𝓡.run mark_ends_by_partition-at.routine)
+    pub mark_ends_by_partition_meets : Wired 𝓡.env mark_ends_by_partition-at.code → Meets 𝓛 mark_ends_by_partition.signature (𝓡.run (𝓡.env mark_ends_by_partition-at.name))
         (Ensures 𝓛 mark_ends_by_partition.ended (λ κs a r e. EndsByPartition (ids_answer a.1.1.1.0 a.1.1.1.1.0.now a.1.1.1.1.1.0) a.0.now a.1.0.now a.1.1.0.now r e.1.1.0.now))
     mark_ends_by_partition_meets = mark_ends_by_partition-met.met 𝓤 𝓛 𝓜 𝓡
 
-    pub get_all_meets : Meets 𝓛 get_all.signature (𝓡.run get_all-at.routine)
+    pub get_all_meets : Wired 𝓡.env get_all-at.code → Meets 𝓛 get_all.signature (𝓡.run (𝓡.env get_all-at.name))
         (Ensures 𝓛 get_all.ended (λ κs a r e. AnswersAll (four a.1.1) listwise.get_all a.0.now a.1.0.now r e.1.0.now))
     get_all_meets = get_all-met.met 𝓤 𝓛 𝓜 𝓡
 
-    pub rank_all_meets : Meets 𝓛 rank_all.signature (𝓡.run rank_all-at.routine)
+    pub rank_all_meets : Wired 𝓡.env rank_all-at.code → Meets 𝓛 rank_all.signature (𝓡.run (𝓡.env rank_all-at.name))
         (Ensures 𝓛 rank_all.ended (λ κs a r e. AnswersAll (four a.1.1) listwise.rank_all a.0.now a.1.0.now r e.1.0.now))
     rank_all_meets = rank_all-met.met 𝓤 𝓛 𝓜 𝓡
 
-    pub rank_if_set_all_meets : Meets 𝓛 rank_if_set_all.signature (𝓡.run rank_if_set_all-at.routine)
+    pub rank_if_set_all_meets : Wired 𝓡.env rank_if_set_all-at.code → Meets 𝓛 rank_if_set_all.signature (𝓡.run (𝓡.env rank_if_set_all-at.name))
         (Ensures 𝓛 rank_if_set_all.ended (λ κs a r e. AnswersAll (four a.1.1) listwise.rank_if_all a.0.now a.1.0.now r e.1.0.now))
     rank_if_set_all_meets = rank_if_set_all-met.met 𝓤 𝓛 𝓜 𝓡
 
-    pub insert_all_meets : Meets 𝓛 insertAll.signature (𝓡.run insertAll-at.routine)
-        (Ensures 𝓛 insertAll.ended (λ κs a r e. InsertsAll (four a.1) a.0.now r (four e.1)))
+    pub insert_all_meets : Wired 𝓡.env insertAll-at.code → Meets 𝓛 insertAll.signature (𝓡.run (𝓡.env insertAll-at.name))
+        (Ensures 𝓛 insertAll.ended (λ κs a r e. InsertsAll (lent a.1) a.0.now r (lent e.1)))
     insert_all_meets = insertAll-met.met 𝓤 𝓛 𝓜 𝓡
 
-    pub slots_for_budget_meets : Meets 𝓛 budgeting.signature (𝓡.run budgeting-at.routine)
+    pub slots_for_budget_meets : Wired 𝓡.env budgeting-at.code → Meets 𝓛 budgeting.signature (𝓡.run (𝓡.env budgeting-at.name))
         (Ensures 𝓛 budgeting.ended (λ κs a r e. r ≡ slots_for_budget a.0))
     slots_for_budget_meets = budgeting-met.met 𝓤 𝓛 𝓜 𝓡
 
-    pub file_bounded_max_id_meets : Meets 𝓛 bounding.signature (𝓡.run bounding-at.routine)
+    pub file_bounded_max_id_meets : Wired 𝓡.env bounding-at.code → Meets 𝓛 bounding.signature (𝓡.run (𝓡.env bounding-at.name))
         (Ensures 𝓛 bounding.ended (λ κs a r e. r ≡ file_bounded_max_id a.0 a.1.0 a.1.1.0))
     file_bounded_max_id_meets = bounding-met.met 𝓤 𝓛 𝓜 𝓡

@@ -6,22 +6,34 @@ use base.Logic.{emp}
 use types.Logic.{Logic}
 use contract.Monad.{fact}
 use contract.Lifetimes.{Lfts}
-use denote.Ref.{Bor}
+use denote.Ref.{Bor, MutBor}
 use denote.Triple.Entry.{Args, Res}
 use denote.Triple.Clauses.{Ended, AtExit}
 use denote.Triple.Spec.{Spec, exits}
-use Rattle.layout.specs.Mem.{Mem, mem_of}
+use Rattle.layout.specs.Mem.{Mem, mem}
 
--- the four slices, first of a call's arguments
-abbrev Slice : Type 0
-Slice = Bor (List ℕ)
+-- one of the four slices as `&`, and as `&mut`
+abbrev Shared : Type 0
+Shared = Bor (List ℕ)
 
-abbrev pub four : {B : Type 0} → Slice × (Slice × (Slice × (Slice × B))) → Mem
-four a = mem_of a.0 a.1.0 a.1.1.0 a.1.1.1.0
+abbrev Lent : Type 0
+Lent = MutBor (List ℕ)
+
+-- the four slices, first of a call's arguments: those of a call that reads
+abbrev pub four : {B : Type 0} → Shared × (Shared × (Shared × (Shared × B))) → Mem
+four a = mem a.0.now a.1.0.now a.1.1.0.now a.1.1.1.0.now
+
+-- those of a call that changes a set
+abbrev pub lent : {B : Type 0} → Lent × (Lent × (Lent × (Lent × B))) → Mem
+lent a = mem a.0.now a.1.0.now a.1.1.0.now a.1.1.1.0.now
+
+-- those of ranking and leaving, which change blocks and table alone
+abbrev pub half : {B : Type 0} → Shared × (Shared × (Lent × (Lent × B))) → Mem
+half a = mem a.0.now a.1.0.now a.1.1.0.now a.1.1.1.0.now
 
 -- pages and rows as they were, blocks and table as they are
-abbrev pub two : {B C : Type 0} → Slice × (Slice × B) → Slice × (Slice × (Slice × (Slice × C))) → Mem
-two a e = mem_of a.0 a.1.0 e.1.1.0 e.1.1.1.0
+abbrev pub two : {B C D E : Type 0} → Shared × (Shared × B) → D × (E × (Lent × (Lent × C))) → Mem
+two a e = mem a.0.now a.1.0.now e.1.1.0.now e.1.1.1.0.now
 
 -- P is of arguments, result, and arguments at exit
 module _ {M : Type 1} {𝓤 : Ura M} (𝓛 : Logic 𝓤) where

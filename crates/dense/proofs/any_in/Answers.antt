@@ -1,5 +1,5 @@
 use mathlib.Core.Path.{◌≡◌, ap, ◌∙◌}
-use Prim.Native.Nat.{ℕ, ◌-◌, ◌*◌, ◌/◌}
+use Prim.Native.Nat.{ℕ, ◌*◌, ◌/◌}
 use native.Mathlib.Omega.{arith}
 use Rattle.dense.specs.Bits.{bits_to}
 use Rattle.dense.proofs.Scans.{any_empty, any_one, any_first, any_word, any_last, first_passed, word_passed}

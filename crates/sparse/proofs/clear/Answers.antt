@@ -1,6 +1,5 @@
 use native.Mathlib.Omega.{arith}
 use borrow.Author.Rules.{rules}
-use Prim.Native.Nat.{◌-◌}
 use mathlib.Core.Path.{refl}
 use lib.ListN.{length-set}
 use Rattle.sparse.proofs.Edits.{cleared_none, cleared_more, cleared_end}

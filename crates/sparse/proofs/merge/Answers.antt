@@ -1,9 +1,8 @@
 use native.Mathlib.Omega.{arith}
-use Prim.Native.Nat.{◌-◌, ◌≤◌}
-use mathlib.Core.Logic.{◌⊎◌, inl, inr, ⊎_elim}
-use lib.ListN.{length, get_or}
-use borrow.Author.Tests.{ltb-true, ltb-false}
-use Rattle.sparse.proofs.Merges.{merging_start, merging_turn, merging_end_a, merging_end_b, lesser_first, lesser_second, Steps, steps}
+use mathlib.Core.Logic.{inl, inr, ⊎_elim}
+use lib.ListN.{get_or}
+use borrow.Author.Tests.{ltb-true}
+use Rattle.sparse.proofs.Merges.{merging_start, merging_turn, merging_end_a, merging_end_b, lesser_first, lesser_second, steps}
 use Rattle.sparse.proofs.merge.Goals as goal
 
 pub loop-i-init : goal.loop-i-init

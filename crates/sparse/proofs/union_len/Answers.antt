@@ -1,9 +1,8 @@
 use native.Mathlib.Omega.{arith}
-use Prim.Native.Nat.{◌-◌}
-use mathlib.Core.Logic.{◌⊎◌, inl, inr, ⊎_elim}
+use mathlib.Core.Logic.{inl, inr, ⊎_elim}
 use lib.ListN.{get_or}
-use borrow.Author.Tests.{ltb-true, ltb-false}
-use Rattle.sparse.proofs.Merges.{counting_start, counting_turn, counting_end, Steps, steps}
+use borrow.Author.Tests.{ltb-true}
+use Rattle.sparse.proofs.Merges.{counting_start, counting_turn, counting_end, steps}
 use Rattle.sparse.proofs.union_len.Goals as goal
 
 pub loop-i-init : goal.loop-i-init

@@ -1,7 +1,7 @@
 -- `sparse::union_sorted` meets its contract: the front that `merge` made, and the rest of it copied behind.
 use native.Mathlib.Omega.{arith}
 use borrow.Author.Rules.{rules}
-use Rattle.sparse.proofs.Unions.{Joined, joined}
+use Rattle.sparse.proofs.Unions.{joined}
 use Rattle.sparse.proofs.union_sorted.Goals as goal
 
 pub offset_bounds-out-k : goal.offset_bounds-out-k

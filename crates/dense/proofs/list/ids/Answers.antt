@@ -2,7 +2,7 @@
 use Rattle.dense.proofs.list.ids.Lts
 use Rattle.dense.proofs.list.ids.Tie
 use Rattle.dense.proofs.list.ids.Reads
-use Prim.Native.Nat.{◌+◌, ◌-◌, ◌*◌, ◌/◌}
+use Prim.Native.Nat.{◌+◌, ◌*◌, ◌/◌}
 use native.Mathlib.Omega.{arith}
 use Rattle.sums.proofs.Filling.{Left}
 use Rattle.dense.proofs.Listed.{asked, asked_outside, asked_first, listing_start, listing_turn, listing_end, listing_full}
@@ -13,7 +13,7 @@ begun : (c : Lts.After-out Tie.the-claims Reads.Pre Reads.Post goal.the-invarian
     → let a = c.args in
     Left a.out.now a.k (asked a.words.now a.base a.from) c.word-n.new.out c.word-n.result (asked a.words.now a.base (64 * (a.from / 64 + 1)))
 begun c =
-        asked_first _ c.args.base c.args.from _ _ _ _ (omega arith) (c.shared_slice_known-2-1.given (c.args.from / 64)).fits c.requires.0 c.word-n.ensures
+    asked_first _ c.args.base c.args.from _ _ _ _ (omega arith) (c.shared_slice_known-2-1.given (c.args.from / 64)).fits c.requires.0 c.word-n.ensures
 
 pub returns-then-words-first : goal.returns-then-words-first
 returns-then-words-first c = asked_outside _ c.args.base c.args.from _ _ c.if-words-first.true c.requires.0

@@ -1,6 +1,4 @@
-use Prim.Native.Nat.{◌+◌, ◌^◌, ◌<◌}
 use native.Mathlib.Omega.{arith}
-use lib.Count.{count_trailing_zeros}
 use Rattle.dense.proofs.Scans.{trailing_fits}
 use Rattle.dense.proofs.Lowest.{cleared_less}
 use Rattle.dense.proofs.Listed.{clearing_start, clearing_lt, clearing_turn, clearing_end, clearing_full}

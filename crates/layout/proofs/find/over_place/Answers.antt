@@ -1,4 +1,3 @@
-use Prim.Native.Nat.{◌-◌}
 use Rattle.layout.proofs.Finds.{halving_start, halving_up, halving_down, halving_end}
 use Rattle.layout.proofs.find.over_place.Goals as goal
 

@@ -1,4 +1,4 @@
-use Prim.Native.Nat.{◌+◌, ◌-◌, ◌≤◌}
+use Prim.Native.Nat.{◌+◌, ◌≤◌}
 use mathlib.Core.Path.{◌≡◌}
 use native.Mathlib.Omega.{arith}
 use lib.ListN.{get_or}
@@ -56,13 +56,12 @@ pub loop-e-smaller : goal.loop-e-smaller
 loop-e-smaller c = omega (arith, c.loop-e-test)
 
 pub loop-e-preserved : goal.loop-e-preserved
-loop-e-preserved c =
-    (
-      omega (arith, c.loop-e-test),
-      seen_more _ _ _ _ _ _ _ _ c.loop-e.invariant.1 (omega (arith, c.loop-e-test, c.over_count.ensures)) _ _ _ _ _
-          c.place_at-q.ensures c.place_is-ok.ensures c.has_row.ensures c.has_page.ensures
-          c.prefix_at-next.ensures,
-    )
+loop-e-preserved c = (
+  omega (arith, c.loop-e-test),
+  seen_more _ _ _ _ _ _ _ _ c.loop-e.invariant.1 (omega (arith, c.loop-e-test, c.over_count.ensures)) _ _ _ _ _
+      c.place_at-q.ensures c.place_is-ok.ensures c.has_row.ensures c.has_page.ensures
+      c.prefix_at-next.ensures,
+)
 
 pub returns : goal.returns
 returns c =

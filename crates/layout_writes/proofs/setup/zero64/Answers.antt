@@ -1,4 +1,3 @@
-use Prim.Native.Nat.{◌-◌}
 use native.Mathlib.Omega.{arith}
 use Rattle.layout_writes.proofs.Fills.{filled_start, filled_more, filled_end}
 use Rattle.layout_writes.proofs.setup.zero64.Goals as goal

@@ -1,6 +1,5 @@
 use native.Mathlib.Omega.{arith}
-use borrow.Author.Tests.{ltb-true, ltb-false}
-use Prim.Native.Nat.{ℕ, ◌≤◌, ◌+◌, ◌-◌, ◌*◌, ◌%◌, ◌^◌, ◌<◌}
+use Prim.Native.Nat.{ℕ, ◌≤◌, ◌+◌, ◌*◌, ◌%◌, ◌^◌, ◌<◌}
 use lib.ListN.{get_or}
 use Rattle.sparse.proofs.Listed.{size_some, id_lt, listing_start, listing_turn, listing_end, listing_full}
 use Rattle.sparse.proofs.list.ids.Goals as goal
