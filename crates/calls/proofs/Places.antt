@@ -14,7 +14,6 @@ use Rattle.layout.specs.Places.{decoded}
 use Rattle.layout.specs.Entries.{place_of}
 use Rattle.layout.specs.Short.{spot_on, spot_of}
 use Rattle.layout.specs.Tests.{Walked}
-use Rattle.layout.specs.declared.find.Spot.{Spot}
 use Rattle.layout.specs.declared.find.Spot.TheVariants.{Nowhere, Row, Page, Bad}
 use Rattle.layout.specs.declared.place.Place.{Place}
 use Rattle.layout.specs.declared.place.Place.TheVariants.{Absent, Sparse, Dense}

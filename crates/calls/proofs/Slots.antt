@@ -2,12 +2,11 @@
 use mathlib.Core.Path.{◌≡◌, refl, sym, ap, subst, ◌∙◌}
 use mathlib.Core.Logic.{◌≢◌}
 use mathlib.Core.Bool.{Bool, true, false, cond}
-use Prim.Native.Nat.{ℕ, ◌<◌}
+use Prim.Native.Nat.{ℕ}
 use lib.Dec.{eqb}
 use borrow.Author.Tests.{eqb-true, ne_eqb}
 use Rattle.sums.specs.Ids.{Ids}
 use Rattle.layout.specs.Mem.{Mem}
-use Rattle.layout.specs.Sizes.{head}
 use Rattle.layout.specs.Entries.{place_of}
 use Rattle.layout.specs.Lowest.{Moves, place_in, TakesLowest, TakesRising}
 use Rattle.layout.specs.Follows.{Follows}

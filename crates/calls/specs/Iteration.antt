@@ -1,5 +1,5 @@
 -- Iteration from a start, on any memory: a run over the entries from the start's chunk on, until the record is full; then one range test past its last id decides the mark.
-use Rattle.std.specs.Prelude.{ℕ, zero, suc, ◌-◌, ◌*◌, ◌/◌, ◌^◌, Bool, true, false, cond, List, ℤ, pos, negsuc, length, get_or, take, drop, ltb}
+use Rattle.std.specs.Prelude.{ℕ, zero, suc, ◌-◌, ◌*◌, ◌/◌, ◌^◌, true, false, cond, List, ℤ, pos, negsuc, get_or, take, drop, ltb}
 use Rattle.std.proofs.Math.IntN.{suc_ℤ}
 use Rattle.sums.specs.Members.{members_in, plus, fill, fill_to}
 use Rattle.sparse.specs.Listed.{offsets_from}

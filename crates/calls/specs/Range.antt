@@ -1,5 +1,5 @@
 -- The range test, on any memory: a run over the entries from the low end's chunk on, each clipped, up to the first that doesn't answer no.
-use Rattle.std.specs.Prelude.{ℕ, zero, suc, ◌+◌, ◌-◌, ◌/◌, ◌%◌, Bool, true, false, cond, ℤ, pos, negsuc, take, drop, leb, ltb, eqb}
+use Rattle.std.specs.Prelude.{ℕ, zero, suc, ◌+◌, ◌-◌, ◌/◌, ◌%◌, true, false, cond, ℤ, pos, negsuc, take, drop, leb, ltb, eqb}
 use Rattle.sparse.specs.Search as sparse
 use Rattle.dense.specs.Bits as dense
 use Rattle.document.specs.Sizes.{top}

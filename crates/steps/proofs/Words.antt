@@ -1,12 +1,11 @@
 -- A chunk's word put into the table: in its direct entry, in its overflow entry, or in a new overflow entry. Assumes nothing.
 use mathlib.Core.Path.{◌≡◌, refl, sym, ap, subst, ◌∙◌}
-use mathlib.Core.Logic.{inl, inr, ◌≢◌}
-use mathlib.Core.List.{List, ◌∷◌, ◌++◌}
+use mathlib.Core.Logic.{◌≢◌}
+use mathlib.Core.List.{List}
 use mathlib.Core.Bool.{Bool, true, false, cond, ◌&&◌}
-use Prim.Native.Nat.{ℕ, suc, ◌+◌, ◌-◌, ◌*◌, ◌≤◌, ◌<◌}
+use Prim.Native.Nat.{ℕ, suc, ◌+◌, ◌*◌, ◌≤◌, ◌<◌}
 use native.Mathlib.Omega.{arith}
-use lib.ListN.{length, get_or, set, take, drop, length-set, length-drop}
-use lib.Seq.{get_or-set_same, get_or-set_other, length-take-le, get_or-take, get_or-drop}
+use lib.ListN.{length, get_or, set}
 use lib.Dec.{ltb, eqb}
 use borrow.Author.Tests.{ltb-true, ltb-false, eqb-true, eqb-false, le-leb}
 use Rattle.sums.proofs.Sums.{Inserted}
@@ -18,7 +17,7 @@ use Rattle.layout_laws.proofs.Keys.{Cut, cut_missed}
 use Rattle.layout_laws.proofs.Halving.{lower_first}
 use Rattle.layout_laws.proofs.Entries.{chunk_direct, word_direct, prefix_direct, chunk_over, word_over, prefix_over, Which, direct, over, which, Ordered}
 use Rattle.layout_laws.proofs.Short.{over_rising}
-use Rattle.layout.specs.Writes.{put_part, added, added_if, over_put, put_word}
+use Rattle.layout.specs.Writes.{added, added_if, over_put, put_word}
 use Rattle.layout.proofs.Added.{added_length, added_over, added_low, added_high, added_chunk, added_word, added_prefix, added_up}
 use Rattle.steps.proofs.Puts as puts
 use Rattle.steps.proofs.Table.{Worded, word_set}

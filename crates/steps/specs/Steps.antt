@@ -1,5 +1,5 @@
 -- The two steps: chunk c into row r, chunk c into page p.
-use Rattle.std.specs.Prelude.{ℕ, ◌+◌, ◌*◌, ◌^◌, List, replicate}
+use Rattle.std.specs.Prelude.{ℕ, ◌+◌, ◌*◌, List, replicate}
 use Rattle.layout.specs.Mem.{Mem, mem}
 use Rattle.layout.specs.Sizes.{wide}
 use Rattle.layout.specs.Places.{encoded}

@@ -4,7 +4,7 @@
 -- The page as a part of its pool, copied whole. Assumes nothing.
 use mathlib.Core.Path.{◌∙◌}
 use mathlib.Core.List.{List}
-use Prim.Native.Nat.{ℕ, ◌-◌, ◌*◌}
+use Prim.Native.Nat.{ℕ, ◌*◌}
 use native.Mathlib.Omega.{arith}
 use Rattle.layout.specs.Sizes.{wide}
 use Rattle.layout.specs.Places.{page_part}

@@ -4,7 +4,7 @@
 -- The page as a part of its pool, with the words of a page of the other. Assumes nothing.
 use mathlib.Core.Path.{ap, ◌∙◌}
 use mathlib.Core.List.{List}
-use Prim.Native.Nat.{ℕ, ◌-◌, ◌*◌}
+use Prim.Native.Nat.{ℕ, ◌*◌}
 use native.Mathlib.Omega.{arith}
 use Rattle.dense.specs.Bits.{or_words}
 use Rattle.layout.specs.Sizes.{wide}

@@ -3,7 +3,7 @@
 -- TODO ('need', 'slice-bounds-unite-end')
 -- The row as a part of its pool, which becomes the union. Assumes nothing.
 use mathlib.Core.Path.{ap, ◌∙◌}
-use Prim.Native.Nat.{◌+◌, ◌-◌, ◌*◌, ◌≤◌}
+use Prim.Native.Nat.{◌+◌, ◌*◌, ◌≤◌}
 use native.Mathlib.Omega.{arith}
 use lib.ListN.{length}
 use Rattle.layout.specs.Places.{row_part}
