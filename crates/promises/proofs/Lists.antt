@@ -46,7 +46,8 @@ use Rattle.lists.proofs.Turns.{Ending, whole, stopped, ending, fresh_few}
 use Rattle.lists.proofs.Inserting.{Sofar, sofar_none, sofar_next, sofar_refused, sofar_all}
 use Rattle.lists.proofs.Refusals.{never_zero}
 use Rattle.lists.proofs.Spares.{inserts_spare}
-use Rattle.promises.specs.Histories.{Story, then, Happened, last, described}
+use Rattle.contracts.specs.Runs.{ran_by}
+use Rattle.promises.specs.Histories.{changed, Story, then, Happened, last, described}
 use Rattle.promises.specs.Lists.{ask_of, Number, AllFit, inserted_into}
 use Rattle.promises.proofs.Theorems.{kept}
 
@@ -220,17 +221,17 @@ module _ (x : Mem) (ids : List ℤ) (fit : AllFit ids) where
 -- single inserts in turn are steps of a history
 into_ran : (s : Story) (zs : List ℤ) → AllFit zs → Happened s → Happened (inserted_into s zs)
 into_ran s [] f r = r
-into_ran s (z ∷ zs) f r = into_ran _ zs f.1 (r, does (last s) (insert z) f.0 refl)
+into_ran s (z ∷ zs) f r = into_ran (then s (changed (insert z) (ran_by (last s) (insert z)).answer (ran_by (last s) (insert z)).after)) zs f.1 (r, does (last s) (insert z) f.0 refl)
 
 into_last : (s : Story) (zs : List ℤ) → last (inserted_into s zs) ≡ all_next after_by (last s) zs
 unfolding all_next
 into_last s [] = refl
-into_last s (z ∷ zs) = into_last _ zs
+into_last s (z ∷ zs) = into_last (then s (changed (insert z) (ran_by (last s) (insert z)).answer (ran_by (last s) (insert z)).after)) zs
 
 into_described : (s : Story) (zs : List ℤ) → described (inserted_into s zs) ≡ all_next after_of (described s) zs
 unfolding all_next
 into_described s [] = refl
-into_described s (z ∷ zs) = into_described _ zs
+into_described s (z ∷ zs) = into_described (then s (changed (insert z) (ran_by (last s) (insert z)).answer (ran_by (last s) (insert z)).after)) zs
 
 module _ (s : Story) (ran : Happened s) where
   abbrev now : State

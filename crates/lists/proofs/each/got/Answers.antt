@@ -1,13 +1,3 @@
--- TODO ('field', ['h', 's'])
--- TODO ('field', ['id'])
--- TODO ('field', ['h', 's'])
--- TODO ('field', ['id'])
--- TODO ('field', ['h', 's'])
--- TODO ('field', ['id'])
--- TODO ('field', ['h', 's'])
--- TODO ('field', ['id'])
--- TODO ('field', ['h', 's'])
--- TODO ('field', ['id'])
 -- By where the id lies. Assumes nothing.
 -- where the id lies
 use mathlib.Core.Path.{◌≡◌, refl, ◌∙◌}
@@ -27,16 +17,16 @@ returns-in_default c = got_negative c.requires c.args.id (split_is _ c.args.id c
 
 pub far_has-requires : goal.far_has-requires
 far_has-requires c =
-    (c.requires, ((let known : (c.in-At.c < 2 ^ 62) × (c.in-At.o < 2 ^ c.args.h.s) = lies_small c.requires c.args.id c.ranges.id _ _ ((let known : let c.before.before.before.before.before.before.before.before.before.before.before = c.args in At c.in-At.c c.in-At.o ≡ split_of c.h.s c.id = split_is _ c.args.id c.ranges.id _ c.split.ensures _ c.in-At.is in known)) in known)).0, ((let known : (c.in-At.c < 2 ^ 62) × (c.in-At.o < 2 ^ c.args.h.s) = lies_small c.requires c.args.id c.ranges.id _ _ ((let known : let c.before.before.before.before.before.before.before.before.before.before.before = c.args in At c.in-At.c c.in-At.o ≡ split_of c.h.s c.id = split_is _ c.args.id c.ranges.id _ c.split.ensures _ c.in-At.is in known)) in known)).1)
+    (c.requires, ((let known : (c.in-At.c < 2 ^ 62) × (c.in-At.o < 2 ^ c.args.h.s) = lies_small c.requires c.args.id c.ranges.id _ _ ((let known : let a_3 = c.args in At c.in-At.c c.in-At.o ≡ split_of a_3.h.s a_3.id = split_is _ c.args.id c.ranges.id _ c.split.ensures _ c.in-At.is in known)) in known)).0, ((let known : (c.in-At.c < 2 ^ 62) × (c.in-At.o < 2 ^ c.args.h.s) = lies_small c.requires c.args.id c.ranges.id _ _ ((let known : let a_4 = c.args in At c.in-At.c c.in-At.o ≡ split_of a_4.h.s a_4.id = split_is _ c.args.id c.ranges.id _ c.split.ensures _ c.in-At.is in known)) in known)).1)
 
 pub returns-then-h-c : goal.returns-then-h-c
 returns-then-h-c c =
-    c.of_truth.ensures ∙ got_here c.requires c.args.id _ _ ((let known : let c.before.before.before.before.before.before.before.before.before.before.before.before.before = c.args in At c.in-At.c c.in-At.o ≡ split_of c.h.s c.id = split_is _ c.args.id c.ranges.id _ c.split.ensures _ c.in-At.is in known)) _ _ refl c.far_has.ensures
+    c.of_truth.ensures ∙ got_here c.requires c.args.id _ _ ((let known : let a_5 = c.args in At c.in-At.c c.in-At.o ≡ split_of a_5.h.s a_5.id = split_is _ c.args.id c.ranges.id _ c.split.ensures _ c.in-At.is in known)) _ _ refl c.far_has.ensures
 
 pub has-requires : goal.has-requires
 has-requires c =
-    spot_within c.requires _ _ ((let known : (c.in-At.c < 2 ^ 62) × (c.in-At.o < 2 ^ c.args.h.s) = lies_small c.requires c.args.id c.ranges.id _ _ ((let known : let c.before.before.before.before.before.before.before.before.before.before.before.before = c.args in At c.in-At.c c.in-At.o ≡ split_of c.h.s c.id = split_is _ c.args.id c.ranges.id _ c.split.ensures _ c.in-At.is in known)) in known)).1 _ c.of_chunk-q.ensures
+    spot_within c.requires _ _ ((let known : (c.in-At.c < 2 ^ 62) × (c.in-At.o < 2 ^ c.args.h.s) = lies_small c.requires c.args.id c.ranges.id _ _ ((let known : let a_7 = c.args in At c.in-At.c c.in-At.o ≡ split_of a_7.h.s a_7.id = split_is _ c.args.id c.ranges.id _ c.split.ensures _ c.in-At.is in known)) in known)).1 _ c.of_chunk-q.ensures
 
 pub returns : goal.returns
 returns c =
-    c.of_truth-2.ensures ∙ got_here c.requires c.args.id _ _ ((let known : let c.before.before.before.before.before.before.before.before.before.before.before.before.before.before = c.args in At c.in-At.c c.in-At.o ≡ split_of c.h.s c.id = split_is _ c.args.id c.ranges.id _ c.split.ensures _ c.in-At.is in known)) _ _ c.of_chunk-q.ensures c.has.ensures
+    c.of_truth-2.ensures ∙ got_here c.requires c.args.id _ _ ((let known : let a_8 = c.args in At c.in-At.c c.in-At.o ≡ split_of a_8.h.s a_8.id = split_is _ c.args.id c.ranges.id _ c.split.ensures _ c.in-At.is in known)) _ _ c.of_chunk-q.ensures c.has.ensures

@@ -1,7 +1,3 @@
--- TODO ('field', ['h', 's'])
--- TODO ('field', ['id'])
--- TODO ('field', ['h', 's'])
--- TODO ('field', ['id'])
 -- Is it there, and then where. Assumes nothing.
 use mathlib.Core.Path.{◌≡◌, sym, ap, ◌∙◌}
 use Prim.Native.Nat.{◌^◌, ◌<◌}
@@ -28,7 +24,7 @@ returns-in_default c =
 
 pub there-requires : goal.there-requires
 there-requires c =
-    (c.requires.0, (let known : let c.before.before.before.before.before.before.before.before.before = c.args in At c.in-At.c c.in-At.o ≡ split_of c.h.s c.id = split_is _ c.args.id c.ranges.id _ c.split.ensures _ c.in-At.is in known) ∙ sym (hop (split_of c.args.h.s) c.args.id c.ranges.id), ((let known : (c.in-At.c < 2 ^ 62) × (c.in-At.o < 2 ^ c.args.h.s) = lies_small c.requires.0 c.args.id c.ranges.id _ _ ((let known : let c.before.before.before.before.before.before.before.before.before = c.args in At c.in-At.c c.in-At.o ≡ split_of c.h.s c.id = split_is _ c.args.id c.ranges.id _ c.split.ensures _ c.in-At.is in known)) in known)).0)
+    (c.requires.0, (let known : let a_1 = c.args in At c.in-At.c c.in-At.o ≡ split_of a_1.h.s a_1.id = split_is _ c.args.id c.ranges.id _ c.split.ensures _ c.in-At.is in known) ∙ sym (hop (split_of c.args.h.s) c.args.id c.ranges.id), ((let known : (c.in-At.c < 2 ^ 62) × (c.in-At.o < 2 ^ c.args.h.s) = lies_small c.requires.0 c.args.id c.ranges.id _ _ ((let known : let a_3 = c.args in At c.in-At.c c.in-At.o ≡ split_of a_3.h.s a_3.id = split_is _ c.args.id c.ranges.id _ c.split.ensures _ c.in-At.is in known)) in known)).0)
 
 pub returns-then-there-eq0 : goal.returns-then-there-eq0
 returns-then-there-eq0 c =

@@ -1,15 +1,3 @@
--- TODO ('field', ['h'])
--- TODO ('field', ['table', 'now'])
--- TODO ('field', ['c'])
--- TODO ('field', ['h'])
--- TODO ('field', ['table', 'now'])
--- TODO ('field', ['c'])
--- TODO ('field', ['h'])
--- TODO ('field', ['table', 'now'])
--- TODO ('field', ['c'])
--- TODO ('field', ['h'])
--- TODO ('field', ['table', 'now'])
--- TODO ('field', ['c'])
 -- By what the entry says: every row and page that it names is there. Assumes nothing.
 use mathlib.Core.Path.{◌≡◌, sym, ap, ap₂, ◌∙◌}
 use Prim.Native.Nat.{ℕ}
@@ -26,12 +14,12 @@ place_at-requires c = (judged_range c.requires.0, entry_few c.requires.0 c.args.
 pub row_at-requires : goal.row_at-requires
 row_at-requires c =
     let z = judged_range c.requires.0 in
-    (z, omega (arith, z.r_high, (entry_owned c.requires.0 c.args.c c.requires.1 _ ((let known : let c.before.before.before.before.before.before.before.before.before = c.args in Sparse c.in-Sparse.r c.in-Sparse.l ≡ place_at c.h c.table.now c.c = sym c.in-Sparse.is ∙ c.place_at.ensures in known))).there))
+    (z, omega (arith, z.r_high, (entry_owned c.requires.0 c.args.c c.requires.1 _ ((let known : let a_1 = c.args in Sparse c.in-Sparse.r c.in-Sparse.l ≡ place_at a_1.h a_1.table.now a_1.c = sym c.in-Sparse.is ∙ c.place_at.ensures in known))).there))
 
 pub page_at-requires : goal.page_at-requires
 page_at-requires c =
     let z = judged_range c.requires.0 in
-    (z, omega (arith, z.p_high, (entry_owned c.requires.0 c.args.c c.requires.1 _ ((let known : let c.before.before.before.before.before.before.before.before.before = c.args in Dense c.in-Dense.p ≡ place_at c.h c.table.now c.c = sym c.in-Dense.is ∙ c.place_at.ensures in known))).there))
+    (z, omega (arith, z.p_high, (entry_owned c.requires.0 c.args.c c.requires.1 _ ((let known : let a_2 = c.args in Dense c.in-Dense.p ≡ place_at a_2.h a_2.table.now a_2.c = sym c.in-Dense.is ∙ c.place_at.ensures in known))).there))
 
 pub overflow_sub-h : goal.overflow_sub-h
 overflow_sub-h c = omega (arith, (judged_range c.requires.0).s_low)
@@ -44,8 +32,8 @@ returns-in-Absent c = entry_spot c.requires.0 c.args.c c.requires.1 Absent (sym 
 
 pub returns-in-Sparse : goal.returns-in-Sparse
 returns-in-Sparse c =
-    ap (λ (k : ℕ). Row k c.args.h.m c.in-Sparse.l) c.row_at.ensures ∙ entry_spot c.requires.0 c.args.c c.requires.1 _ ((let known : let c.before.before.before.before.before.before.before.before.before.before = c.args in Sparse c.in-Sparse.r c.in-Sparse.l ≡ place_at c.h c.table.now c.c = sym c.in-Sparse.is ∙ c.place_at.ensures in known))
+    ap (λ (k : ℕ). Row k c.args.h.m c.in-Sparse.l) c.row_at.ensures ∙ entry_spot c.requires.0 c.args.c c.requires.1 _ ((let known : let a_3 = c.args in Sparse c.in-Sparse.r c.in-Sparse.l ≡ place_at a_3.h a_3.table.now a_3.c = sym c.in-Sparse.is ∙ c.place_at.ensures in known))
 
 pub returns-in-Dense : goal.returns-in-Dense
 returns-in-Dense c =
-    ap₂ Page c.page_at.ensures c.pow2.ensures ∙ entry_spot c.requires.0 c.args.c c.requires.1 _ ((let known : let c.before.before.before.before.before.before.before.before.before.before.before.before = c.args in Dense c.in-Dense.p ≡ place_at c.h c.table.now c.c = sym c.in-Dense.is ∙ c.place_at.ensures in known))
+    ap₂ Page c.page_at.ensures c.pow2.ensures ∙ entry_spot c.requires.0 c.args.c c.requires.1 _ ((let known : let a_4 = c.args in Dense c.in-Dense.p ≡ place_at a_4.h a_4.table.now a_4.c = sym c.in-Dense.is ∙ c.place_at.ensures in known))
