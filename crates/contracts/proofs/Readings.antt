@@ -4,7 +4,7 @@ use mathlib.Core.Bool.{Bool}
 use lib.IntN.{ℤ, pos, negsuc}
 use Rattle.document.specs.Calls.{Said, whether, many, maybe, listed}
 use Rattle.document.specs.Calls.{Ask, get, range_test, chunk_id, len, is_empty, has_any, chunk_count, iterate, rank_of, rank_if_set, total_count, check}
-use Rattle.document.specs.Answers.{chunk_in, chunks_in, reply}
+use Rattle.document.specs.Answers.{chunk_in, reply}
 use Rattle.document.specs.declared.answer.Truth.TheVariants as truth
 use Rattle.layout.specs.Mem.{Mem}
 use Rattle.layout.specs.Sizes.{head}

@@ -1,7 +1,7 @@
 -- What the contract of every call on a set says: its model on any memory, and document 01's words on memory that follows the layout.
 use Rattle.std.specs.Prelude.{◌≡◌, Bool}
 use Rattle.sums.specs.Rules.{Decides}
-use Rattle.document.specs.State.{State, empty}
+use Rattle.document.specs.State.{empty}
 use Rattle.document.specs.Sizes.{InRange}
 use Rattle.document.specs.Refusals.{outside_sizes, too_short}
 use Rattle.document.specs.Calls.{Call, Said, whether, many, maybe, listed}

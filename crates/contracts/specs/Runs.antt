@@ -1,14 +1,10 @@
 -- What each call answers and leaves on any memory: its model.
-use Rattle.document.specs.Calls.{Call, insert, put, prepared, prepare, rank_up, leave, Said, whether, that, many, maybe}
-use Rattle.document.specs.Calls.{Ask, get, chunk_id, len, is_empty, has_any, chunk_count, rank_of, rank_if_set, total_count, check}
+use Rattle.document.specs.Calls.{Call, insert, put, prepared, prepare, rank_up, leave, Said, whether, that}
 use Rattle.document.specs.Insert.{done}
 use Rattle.layout.specs.Mem.{Mem}
 use Rattle.layout.specs.SetUp.{Did}
-use Rattle.calls.specs.Reading.{get_by, chunk_of_by}
-use Rattle.calls.specs.Counts.{len_by, is_empty_by, has_any_by, chunks_by}
 use Rattle.calls.specs.Insert.{Told, insert_by, prepared_by}
 use Rattle.calls.specs.Prepare.{prepare_by}
-use Rattle.ranks.specs.Rank.{rank_by, rank_if_by, total_by}
 use Rattle.ranks.specs.Form.{rank_up_by, open_by}
 
 -- an answer, and memory after the call

@@ -2,7 +2,7 @@
 use mathlib.Core.Path.{◌≡◌, refl, sym, ◌∙◌, ap, ap₂}
 use mathlib.Core.Logic.{◌≢◌}
 use mathlib.Core.Bool.{Bool, true, false, cond, not, ◌&&◌}
-use Prim.Native.Nat.{ℕ, ◌+◌, ◌*◌, ◌≤◌, ◌<◌}
+use Prim.Native.Nat.{ℕ, ◌+◌, ◌≤◌, ◌<◌}
 use native.Mathlib.Omega.{arith}
 use lib.Dec.{ltb, eqb}
 use borrow.Author.Tests.{ltb-true, ltb-false, eq-eqb, ne_eqb}
@@ -13,7 +13,6 @@ use Rattle.sums.specs.Ids.{count}
 use Rattle.sums.specs.Rules.{all_to}
 use Rattle.sums.proofs.Sums.{sum_next, sum_bound}
 use Rattle.sums.proofs.Counts.{count_zero, count_next, count_le, byte_le}
-use Rattle.sums.proofs.Rules.{all_end}
 use Rattle.sparse.proofs.Rows.{count_some}
 use Rattle.layout.specs.Mem.{Mem}
 use Rattle.document.specs.declared.answer.Truth.TheVariants as truth

@@ -7,7 +7,7 @@ use native.Mathlib.Omega.{arith}
 use lib.ListN.{length, set}
 use Rattle.document.specs.declared.answer.Truth.TheVariants as truth
 use Rattle.layout.specs.Mem.{Mem, mem}
-use Rattle.layout.specs.Sizes.{head, header_at}
+use Rattle.layout.specs.Sizes.{header_at}
 use Rattle.layout.specs.Short.{word_in}
 use Rattle.layout.specs.Writes.{put_word}
 use Rattle.layout.specs.declared.find.Word.TheVariants as word

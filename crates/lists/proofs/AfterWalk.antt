@@ -11,7 +11,7 @@ use Rattle.dense.specs.Bits.{is_set}
 use Rattle.document.specs.Sizes.{top}
 use Rattle.document.specs.Refusals.{not_laid_out, is_open}
 use Rattle.document.specs.Answers.{perhaps_rank, rank_answer, rank_if_answer}
-use Rattle.document.specs.declared.answer.Outcome.TheVariants.{Done, Refused}
+use Rattle.document.specs.declared.answer.Outcome.TheVariants.{Done}
 use Rattle.document.specs.declared.answer.Truth.{Truth}
 use Rattle.document.specs.declared.answer.Truth.TheVariants as truth
 use Rattle.document.specs.declared.answer.Amount.{Amount}

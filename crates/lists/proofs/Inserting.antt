@@ -1,5 +1,5 @@
 -- `insert_all` from the contracts of its single inserts: so far, and at the end. Assumes nothing.
-use mathlib.Core.Path.{◌≡◌, refl, sym, ap, subst, ◌∙◌}
+use mathlib.Core.Path.{◌≡◌, ap, subst, ◌∙◌}
 use mathlib.Core.List.{List}
 use mathlib.Core.Bool.{Bool}
 use Prim.Native.Nat.{ℕ, ◌+◌, ◌≤◌, ◌<◌}
@@ -10,13 +10,11 @@ use mir.Val.{bool_byte, SFits, of_z, to_z}
 use mir.Facts.{to_z-of_z}
 use Rattle.document.specs.Calls.{insert, whether}
 use Rattle.document.specs.Insert.{new_answer}
-use Rattle.document.specs.Answers.{answer, after}
 use Rattle.document.specs.declared.answer.Truth.{Truth}
 use Rattle.document.specs.declared.answer.Truth.TheVariants.{Is, Refused}
 use Rattle.layout.specs.Mem.{Mem}
 use Rattle.layout.specs.Meaning.{state_of}
 use Rattle.layout.specs.Follows.{Follows}
-use Rattle.calls.specs.Insert.{insert_by}
 use Rattle.calls.proofs.Refusals.{insert_refused}
 use Rattle.contracts.specs.Runs.{Ran}
 use Rattle.contracts.specs.Does.{Does}

@@ -1,8 +1,8 @@
 -- A chunk after the walk: what is read of it without a test is what the single calls read. Assumes nothing.
-use mathlib.Core.Path.{◌≡◌, refl, sym, ap, ap₂, subst, ◌∙◌}
+use mathlib.Core.Path.{◌≡◌, sym, ap, ap₂, subst, ◌∙◌}
 use mathlib.Core.Bool.{Bool, true, cond}
 use mathlib.Core.List.{[]}
-use Prim.Native.Nat.{ℕ, ◌+◌, ◌*◌, ◌-◌, ◌^◌, ◌≤◌, ◌<◌}
+use Prim.Native.Nat.{ℕ, ◌+◌, ◌^◌, ◌≤◌, ◌<◌}
 use native.Mathlib.Omega.{arith}
 use lib.IntN.{ℤ}
 use lib.ListN.{length, get_or}
@@ -20,7 +20,7 @@ use Rattle.document.specs.declared.answer.Truth.{Truth}
 use Rattle.layout.specs.Mem.{Mem, mem}
 use Rattle.layout.specs.Sizes.{direct_at, head}
 use Rattle.layout.specs.Places.{decoded}
-use Rattle.layout.specs.Entries.{word_at, prefix_at, place_at, word_of, place_of}
+use Rattle.layout.specs.Entries.{prefix_at, place_at, word_of, place_of}
 use Rattle.layout.specs.Short.{word_in, spot_on}
 use Rattle.layout.specs.Seat.{direct_seat, overflow_seat, seat_in}
 use Rattle.layout.specs.Part.{Within}

@@ -1,10 +1,9 @@
 -- No insert is refused with a 0, on any memory: so 0 says that there was no refusal. Assumes nothing.
-use mathlib.Core.Path.{◌≡◌, refl}
+use mathlib.Core.Path.{◌≡◌}
 use mathlib.Core.Bool.{Bool, true, false, cond, ◌&&◌}
 use Prim.Native.Nat.{ℕ, zero, suc}
 use native.Mathlib.Omega.{arith}
 use lib.IntN.{ℤ}
-use lib.ListN.{length}
 use lib.Dec.{leb, ltb, eqb}
 use Rattle.numbers.specs.Ids.{split_of}
 use Rattle.numbers.specs.declared.Split.{Split}
@@ -13,7 +12,6 @@ use Rattle.sparse.specs.Search.{spot_in}
 use Rattle.sparse.specs.declared.Place as slot
 use Rattle.sparse.specs.declared.Place.TheVariants.{Found, Free}
 use Rattle.dense.specs.Bits.{is_set}
-use Rattle.document.specs.declared.answer.Truth.{Truth}
 use Rattle.document.specs.declared.answer.Truth.TheVariants as truth
 use Rattle.layout.specs.Mem.{Mem}
 use Rattle.layout.specs.Sizes.{head, mode_at, over_count}

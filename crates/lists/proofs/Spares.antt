@@ -1,5 +1,5 @@
 -- Inserts in turn leave the header's sizes and every element past them as they were, on any memory. Assumes nothing.
-use mathlib.Core.Path.{◌≡◌, refl, sym, subst, ◌∙◌}
+use mathlib.Core.Path.{◌≡◌, refl, subst, ◌∙◌}
 use mathlib.Core.List.{List, [], ◌∷◌}
 use mathlib.Core.Bool.{Bool, true, false, cond, ◌&&◌}
 use Prim.Native.Nat.{ℕ, ◌+◌, ◌*◌, ◌≤◌, ◌<◌}
@@ -19,7 +19,7 @@ use Rattle.layout.specs.Sizes.{direct_at, over_start, over_at, row_owners_at, pa
 use Rattle.layout.specs.Places.{encoded}
 use Rattle.layout.specs.Short.{over_place}
 use Rattle.layout.specs.Spare.{Spare}
-use Rattle.layout.specs.Writes.{added, added_if, over_put, put_word, put_owner, put_row_owner}
+use Rattle.layout.specs.Writes.{over_put, put_word, put_owner, put_row_owner}
 use Rattle.layout.specs.declared.place.Place.TheVariants.{Sparse, Dense}
 use Rattle.layout.proofs.Added.{added_low}
 use Rattle.layout.proofs.Owners.{put_owner_off}

@@ -1,23 +1,23 @@
 -- Entry by entry: what a turn asks for is there where the tests passed, and the lowest free slot is looked for from the last one on. Assumes nothing.
-use mathlib.Core.Path.{◌≡◌, refl, sym, ap, subst, ◌∙◌}
+use mathlib.Core.Path.{◌≡◌, sym, ap, subst, ◌∙◌}
 use mathlib.Core.Logic.{◌≢◌}
 use mathlib.Core.List.{List}
 use mathlib.Core.Bool.{true}
-use Prim.Native.Nat.{ℕ, ◌+◌, ◌-◌, ◌*◌, ◌^◌, ◌≤◌, ◌<◌}
+use Prim.Native.Nat.{ℕ, ◌-◌, ◌*◌, ◌^◌, ◌≤◌, ◌<◌}
 use native.Mathlib.Omega.{arith}
 use lib.ListN.{length}
 use lib.Pow.{pow_mono}
 use Rattle.document.specs.Sizes.{InRange, last_chunk}
 use Rattle.document.specs.declared.sizes.Sizes.{Sizes}
 use Rattle.layout.specs.Mem.{Mem, mem}
-use Rattle.layout.specs.Sizes.{wide, header_at, head, over_count, rows_from, pages_from}
+use Rattle.layout.specs.Sizes.{wide, header_at, head, rows_from, pages_from}
 use Rattle.layout.specs.Places.{row_owner, page_owner}
 use Rattle.layout.specs.Follows.{FullTo}
 use Rattle.layout.specs.Entries.{entries, chunk_at}
 use Rattle.layout.specs.Free.{first_free}
 use Rattle.layout.specs.declared.place.Place.{Place}
 use Rattle.layout.proofs.FirstFree.{found_full, same_found}
-use Rattle.unions.specs.Union.{fits, standing, source, source_chunk, source_entries, densely, sparsely}
+use Rattle.unions.specs.Union.{fits, standing, source, densely, sparsely}
 use Rattle.unions.specs.Joinable.{Joinable}
 use Rattle.unions.proofs.Standing.{chunk_in}
 use Rattle.unions.proofs.Results.{same_s, same_m}

@@ -1,19 +1,18 @@
 -- Each pass under way: memory is the model's after as many entries, and the cursor is the lowest free slot. Assumes nothing.
 use mathlib.Core.Path.{◌≡◌, refl, sym, ap, subst, ◌∙◌}
 use mathlib.Core.List.{List}
-use Prim.Native.Nat.{ℕ, ◌+◌, ◌-◌, ◌*◌, ◌^◌, ◌≤◌, ◌<◌}
+use Prim.Native.Nat.{ℕ, ◌+◌, ◌-◌, ◌≤◌, ◌<◌}
 use native.Mathlib.Numerals.{add-one}
 use native.Mathlib.Omega.{arith}
 use lib.ListN.{length}
 use Rattle.document.specs.Sizes.{InRange}
 use Rattle.document.specs.declared.sizes.Sizes.{Sizes}
 use Rattle.layout.specs.Mem.{Mem, mem}
-use Rattle.layout.specs.Sizes.{header_at, head}
+use Rattle.layout.specs.Sizes.{header_at}
 use Rattle.layout.specs.Places.{row_owner, page_owner}
 use Rattle.layout.specs.Entries.{entries}
 use Rattle.layout.specs.Free.{first_free, free_row_in, free_page_in}
 use Rattle.unions.specs.Union.{source_entries, dense_to, sparse_to, united_by}
-use Rattle.unions.specs.Joinable.{Joinable}
 use Rattle.unions.proofs.Onward.{Turned, Kept, dense_turned, sparse_turned, dense_kept, sparse_kept}
 use Rattle.merge_slots.specs.Pools.{PagePools, RowPools}
 use Rattle.merging.specs.Ready.{Entry, Sound, RowsSound}

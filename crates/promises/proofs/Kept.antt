@@ -1,23 +1,19 @@
 -- Along every history memory follows the layout, stands for the set described, and gives document 01's answers. Assumes nothing.
 use mathlib.Core.Path.{◌≡◌, ap, ap₂, subst, ◌∙◌}
-use mathlib.Core.List.{List}
-use lib.IntN.{ℤ}
 use lib.ListN.{take}
-use Rattle.document.specs.State.{State, empty}
+use Rattle.document.specs.State.{State}
 use Rattle.document.specs.Insert.{new_answer}
 use Rattle.document.specs.Answers.{answer, after, reply}
-use Rattle.document.specs.Union.{Join, union_answer, united, leftover}
+use Rattle.document.specs.Union.{union_answer, united, leftover}
 use Rattle.document.specs.Plan.{PlansFor}
 use Rattle.document.specs.RangeList.{marks, marks_in, hits}
-use Rattle.document.specs.declared.answer.Outcome.{Outcome}
 use Rattle.document.specs.declared.answer.Outcome.TheVariants.{Done}
 use Rattle.layout.specs.Mem.{Mem}
 use Rattle.layout.specs.Meaning.{state_of}
 use Rattle.layout.specs.Follows.{Follows}
-use Rattle.contracts.specs.Does.{Joins}
 use Rattle.lists.specs.Lists.{open_answer, unless_refused, answered, one_of}
 use Rattle.lists.specs.Inserts.{in_turn, all_next, after_of}
-use Rattle.promises.specs.Histories.{Step, set_up, changed, read, planned, marks_set, ends_set, read_all, inserted_all, Story, made, then, took, gave, remade, last_by, last, Stepped, Happened, described_by, described, RightBy, Kept}
+use Rattle.promises.specs.Histories.{Step, set_up, changed, read, planned, marks_set, ends_set, read_all, inserted_all, Story, made, then, took, gave, last_by, last, Stepped, Happened, described_by, described, RightBy, Kept}
 use Rattle.promises.proofs.SetUps.{fit, set_up_right, set_up_follows, set_up_state}
 
 -- one step

@@ -34,11 +34,11 @@ use Rattle.layout.specs.Tests.{Walked}
 use Rattle.calls.specs.Reading.{get_by}
 use Rattle.calls.specs.Insert.{insert_by}
 use Rattle.ranks.specs.Rank.{rank_by, rank_if_by}
-use Rattle.contracts.specs.Does.{Does, Answers}
+use Rattle.contracts.specs.Does.{Answers}
 use Rattle.contracts.proofs.Steps.{does}
 use Rattle.lists.specs.declared.insert.Inserted.{Inserted}
 use Rattle.lists.specs.Lists.{ListAsk, get_all, rank_all, rank_if_all, truth_number, amount_number, perhaps_number, one_by, answered, open_answer, list_answer, unless_refused, one_of, AnswersAll}
-use Rattle.lists.specs.Inserts.{inserted_of, then_rest, in_turn, all_next, answer_by, after_by, after_of, RightAll, InsertsAll}
+use Rattle.lists.specs.Inserts.{inserted_of, then_rest, in_turn, all_next, answer_by, after_by, after_of, InsertsAll}
 use Rattle.lists.proofs.Answered.{answered_at, answered_past}
 use Rattle.lists.proofs.AfterWalk.{get_told, rank_of_told, rank_if_told, open_ranked}
 use Rattle.lists.proofs.Outcomes.{passed, answers_all}

@@ -2,7 +2,7 @@
 use mathlib.Core.Path.{◌≡◌, ap}
 use Prim.Native.Nat.{ℕ}
 use Rattle.document.specs.Insert.{done}
-use Rattle.document.specs.Calls.{Call, insert, put, prepared, prepare, rank_up, leave, Said, whether, that, Refuses}
+use Rattle.document.specs.Calls.{Call, insert, put, prepared, prepare, rank_up, leave, whether, that, Refuses}
 use Rattle.document.specs.declared.answer.Outcome.{Outcome}
 use Rattle.document.specs.declared.answer.Outcome.TheVariants as outcome
 use Rattle.document.specs.declared.answer.Truth.{Truth}

@@ -9,8 +9,8 @@ use Rattle.sums.specs.Ids.{count, total, rank}
 use Rattle.sums.proofs.Ranks.{nth_member, nth_one}
 use Rattle.document.specs.State.{State}
 use Rattle.document.specs.Union.{Join}
-use Rattle.document.specs.Calls.{Call, Fitting, Ask, Said, whether, that, many, Refuses, rank_up, leave, iterate, rank_of, listed, check}
-use Rattle.document.specs.Answers.{answer, rank_answer, reply}
+use Rattle.document.specs.Calls.{Call, Fitting, Ask, Said, whether, many, Refuses, rank_up, leave, iterate, rank_of, listed, check}
+use Rattle.document.specs.Answers.{rank_answer, reply}
 use Rattle.document.specs.declared.sizes.Sizes.{Sizes}
 use Rattle.document.specs.declared.answer.Outcome.{Outcome}
 use Rattle.document.specs.declared.answer.Outcome.TheVariants.{Done, Refused}
@@ -22,7 +22,7 @@ use Rattle.document.specs.declared.plan.Planning.{Planning}
 use Rattle.document.specs.declared.plan.Planning.TheVariants as planning
 use Rattle.document.proofs.Threes.{answer_not_three, reply_not_three, union_not_three, plan_not_three}
 use Rattle.layout.specs.Mem.{Mem}
-use Rattle.layout.specs.Meaning.{state_of, ranked}
+use Rattle.layout.specs.Meaning.{state_of}
 use Rattle.layout.specs.Follows.{Follows}
 use Rattle.layout.specs.Sizes.{head}
 use Rattle.layout.specs.SetUp.{Did, set_up_by}

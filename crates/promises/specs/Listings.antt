@@ -1,5 +1,5 @@
 -- Iteration by calls: records one after the other, each one that its contract allows, each next one from the next start that the last gave.
-use Rattle.std.specs.Prelude.{◌≡◌, true, false, List, [], ◌∷◌, ℕ, ◌+◌, ◌/◌, ◌≤◌, ℤ, length}
+use Rattle.std.specs.Prelude.{◌≡◌, true, false, List, [], ◌∷◌, ◌+◌, ◌/◌, ◌≤◌, ℤ, length}
 use Rattle.sums.specs.Ids.{Ids, total}
 use Rattle.document.specs.Calls.{iterate, listed}
 use Rattle.document.specs.Listings.{listed_ids, ListsFrom}

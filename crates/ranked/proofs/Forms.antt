@@ -7,7 +7,6 @@ use native.Mathlib.Omega.{arith}
 use lib.Dec.{eqb}
 use Rattle.sums.specs.Sums.{sum_to}
 use Rattle.layout.specs.Mem.{Mem, mem}
-use Rattle.layout.specs.Meaning.{state_of}
 use Rattle.layout.specs.Sizes.{blocks_of, head, mode_at, over_count}
 use Rattle.layout.specs.Entries.{entries, place_at}
 use Rattle.layout.specs.Follows.{Owned, members_at}

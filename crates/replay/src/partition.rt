@@ -12,8 +12,8 @@ pub fn plan(
     line: &[u8],
     p: &[u64],
     r: &[u32],
-    b: &mut [u32],
-    t: &mut [u64],
+    b: &[u32],
+    t: &[u64],
     c: &mut [i64],
 ) -> io::Result<()> {
     let s = words::number_or(line, 2, 0);

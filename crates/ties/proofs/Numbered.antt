@@ -1,5 +1,5 @@
 -- Every refusal of every call has a number of document 01's table, on any memory: so 0 is free to say that there is none. Assumes nothing.
-use mathlib.Core.Path.{◌≡◌, sym, subst}
+use mathlib.Core.Path.{sym, subst}
 use mathlib.Core.Bool.{Bool, true, false, cond, not, ◌&&◌}
 use mathlib.Core.List.{List}
 use Prim.Native.Nat.{ℕ, zero, suc, ◌+◌, ◌-◌, ◌*◌, ◌/◌, ◌%◌, ◌^◌, ◌≤◌, min}
@@ -45,7 +45,6 @@ use Rattle.document.specs.declared.plan.Planning.{Planning}
 use Rattle.document.specs.declared.plan.Planning.TheVariants as planning
 use Rattle.document.specs.declared.plan.Spanned.{Spanned}
 use Rattle.document.specs.declared.plan.Spanned.TheVariants as spanned
-use Rattle.document.specs.declared.plan.Ranks.{Ranks}
 use Rattle.document.specs.declared.plan.Ranks.TheVariants as ranks
 use Rattle.layout.specs.Mem.{Mem}
 use Rattle.layout.specs.Sizes.{head, mode_at, total_at, over_count}
@@ -72,12 +71,12 @@ use Rattle.calls.specs.Insert.{insert_plan, prepared_plan, acted, insert_at, ins
 use Rattle.calls.specs.Prepare.{densed_to, over_needed, pages_needed, prepare_to, prepare_id, prepare_by}
 use Rattle.calls.specs.declared.plan.Plan.{Plan}
 use Rattle.calls.specs.declared.plan.Plan.TheVariants.{Refuse, Known, Mark, Enter, Begin, Turn}
-use Rattle.ranks.specs.Rank.{in_page, below_at, plus_before, rank_seat, rank_split, if_ranked, rank_by, perhaps_of, if_there, rank_if_seat, rank_if_split, rank_if_by, total_by}
+use Rattle.ranks.specs.Rank.{below_at, plus_before, rank_seat, rank_split, if_ranked, rank_by, perhaps_of, if_there, rank_if_seat, rank_if_split, rank_if_by, total_by}
 use Rattle.ranks.specs.Form.{to_ranked, to_open, rank_up_by, open_by}
 use Rattle.unions.specs.Union.{over_after, rows_after, pages_after, judged, barred_by, Met, met_if, union_plan, union_by}
 use Rattle.contracts.specs.Runs.{Ran, ran_by}
 use Rattle.contracts.specs.Does.{Does, Answers, SetsUp, Joins}
-use Rattle.cuts.specs.Plan.{Cut, cut, bounds_to, plan_total, plan_by}
+use Rattle.cuts.specs.Plan.{Cut, cut, bounds_to, plan_by}
 use Rattle.cuts.specs.Promise.{Plans}
 use Rattle.range_list.specs.Marks.{range_answer, EndsByRange, EndsByPartition}
 use Rattle.lists.specs.Lists.{ListAsk, get_all, rank_all, rank_if_all, open_answer, list_answer, AnswersAll}

@@ -3,7 +3,7 @@ use mathlib.Core.Path.{◌≡◌, refl, sym, ap, subst, ◌∙◌}
 use mathlib.Core.Logic.{◌⊎◌, inl, inr, ◌≢◌}
 use mathlib.Core.List.{List}
 use mathlib.Core.Bool.{Bool, true, false, cond, ◌&&◌}
-use Prim.Native.Nat.{ℕ, zero, suc, ◌+◌, ◌-◌, ◌*◌, ◌^◌, max, ◌≤◌, ◌<◌}
+use Prim.Native.Nat.{ℕ, zero, suc, ◌+◌, ◌-◌, ◌*◌, ◌^◌, ◌≤◌, ◌<◌}
 use native.Mathlib.Omega.{arith}
 use lib.ListN.{length, take, length-take}
 use lib.Dec.{leb, ltb}
@@ -15,7 +15,7 @@ use Rattle.sparse.proofs.Edits.{length_copied}
 use Rattle.sparse.proofs.Unions.{length_union_ge, length_front}
 use Rattle.dense.specs.Bits.{with_row}
 use Rattle.dense.proofs.Bits.{length_row, length_or}
-use Rattle.document.specs.Sizes.{InRange, top, last_chunk}
+use Rattle.document.specs.Sizes.{top, last_chunk}
 use Rattle.document.specs.State.{is_present}
 use Rattle.document.specs.declared.sizes.Sizes.{Sizes}
 use Rattle.layout.specs.Mem.{Mem}
@@ -24,14 +24,13 @@ use Rattle.layout.specs.Places.{encoded, has_page, row_part, page_part, row_owne
 use Rattle.layout.specs.Entries.{place_of}
 use Rattle.layout.specs.Meaning.{kind_of, kinds}
 use Rattle.layout.specs.Follows.{OwnsRow, OwnsPage, Owned}
-use Rattle.layout.specs.Tests.{Walked}
 use Rattle.layout.specs.declared.place.Place.{Place}
 use Rattle.layout.specs.declared.place.Place.TheVariants.{Absent, Sparse, Dense}
 use Rattle.layout.proofs.Added.{same_or}
 use Rattle.layout.proofs.Parts.{slot_in, length_put}
 use Rattle.layout.proofs.Places.{decoded_encoded_sparse, decoded_encoded_dense}
 use Rattle.layout_laws.proofs.Sizes.{row_length, page_length}
-use Rattle.layout_laws.proofs.Owners.{row_of_law, page_of_law}
+use Rattle.layout_laws.proofs.Owners.{row_of_law}
 use Rattle.steps.specs.Steps.{rowed, paged}
 use Rattle.steps.specs.Effects.{RowFor, PageFor}
 use Rattle.steps.proofs.Moves.{Moved}

@@ -37,31 +37,31 @@ turn_entry-requires c =
 pub returns-in-Refuse : goal.returns-in-Refuse
 returns-in-Refuse c =
     λ b.
-        act_way (mem c.args.pages.now c.args.rows.now b c.args.table.now) c.args.c c.args.o c.args.q _ c.in-Refuse.is
+    act_way (mem c.args.pages.now c.args.rows.now b c.args.table.now) c.args.c c.args.o c.args.q _ c.in-Refuse.is
 
 pub returns-in-Known : goal.returns-in-Known
 returns-in-Known c =
     λ b.
-        act_way (mem c.args.pages.now c.args.rows.now b c.args.table.now) c.args.c c.args.o c.args.q _ c.in-Known.is
+    act_way (mem c.args.pages.now c.args.rows.now b c.args.table.now) c.args.c c.args.o c.args.q _ c.in-Known.is
 
 pub returns-in-Mark : goal.returns-in-Mark
 returns-in-Mark c =
     λ b.
-        act_mark c.args.pages.now c.args.rows.now b c.args.table.now c.args.c c.args.o c.args.q _
+    act_mark c.args.pages.now c.args.rows.now b c.args.table.now c.args.c c.args.o c.args.q _
     c.read-h.ensures _ _ c.in-Mark.is
     c.mark_page.ensures
 
 pub returns-in-Enter : goal.returns-in-Enter
 returns-in-Enter c =
     λ b.
-        act_enter c.args.pages.now c.args.rows.now b c.args.table.now c.args.c c.args.o c.args.q _ _ _ _ _
+    act_enter c.args.pages.now c.args.rows.now b c.args.table.now c.args.c c.args.o c.args.q _ _ _ _ _
     c.in-Enter.is
     c.enter.ensures.0 c.enter.ensures.1
 
 pub returns-in-Begin : goal.returns-in-Begin
 returns-in-Begin c =
     λ b.
-        act_begin c.args.pages.now c.args.rows.now b c.args.table.now c.args.c c.args.o c.args.q _
+    act_begin c.args.pages.now c.args.rows.now b c.args.table.now c.args.c c.args.o c.args.q _
     c.read-h-in-Begin.ensures _ _ _
     c.in-Begin.is
     c.begin_row.ensures c.begin_entry.ensures
@@ -69,7 +69,7 @@ returns-in-Begin c =
 pub returns-in-Turn : goal.returns-in-Turn
 returns-in-Turn c =
     λ b.
-        act_turn c.args.pages.now c.args.rows.now b c.args.table.now c.args.c c.args.o c.args.q _
+    act_turn c.args.pages.now c.args.rows.now b c.args.table.now c.args.c c.args.o c.args.q _
     c.read-h-in-Turn.ensures _ _ _
     _ _ _
     c.in-Turn.is

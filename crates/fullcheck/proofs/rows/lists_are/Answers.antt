@@ -1,4 +1,3 @@
-use Prim.Native.Nat.{◌-◌}
 use native.Mathlib.Omega.{arith}
 use Rattle.sums.proofs.Rules.{all_none, all_more, all_end}
 use Rattle.fullcheck.proofs.rows.lists_are.Goals as goal

@@ -1,6 +1,5 @@
 -- After k turns the first k bytes are taken. Assumes nothing.
 use mathlib.Core.Path.{refl}
-use Prim.Native.Nat.{◌-◌}
 use borrow.Author.Rules.{rules}
 use native.Mathlib.Omega.{arith}
 use Rattle.layout.specs.Mem.{mem}

@@ -18,11 +18,10 @@ returns-then-not-h-g c =
     c.read-h.ensures c.read-g.ensures (not_from_false _ c.if-not-h-g.true)
 
 pub judge-requires : goal.judge-requires
-judge-requires c =
-    (
-      subst (λ (h : Sizes). Passed h c.args.rows.now c.args.table.now) (sym c.read-h.ensures) c.requires.0,
-      subst (λ (h : Sizes). Passed h c.args.srows.now c.args.stable.now) (sym c.read-g.ensures) c.requires.1,
-    )
+judge-requires c = (
+  subst (λ (h : Sizes). Passed h c.args.rows.now c.args.table.now) (sym c.read-h.ensures) c.requires.0,
+  subst (λ (h : Sizes). Passed h c.args.srows.now c.args.stable.now) (sym c.read-g.ensures) c.requires.1,
+)
 
 pub returns : goal.returns
 returns c =

@@ -1,4 +1,4 @@
-use Prim.Native.Nat.{◌+◌, ◌-◌, ◌≤◌, ◌<◌}
+use Prim.Native.Nat.{◌+◌, ◌≤◌, ◌<◌}
 use native.Mathlib.Omega.{arith}
 use Rattle.layout.specs.Entries.{entries}
 use Rattle.merging.proofs.Ways.{dense_few, dense_range, dense_start, dense_ready, dense_more, dense_end}

@@ -1,4 +1,4 @@
-use Prim.Native.Nat.{◌+◌, ◌-◌, ◌≤◌, ◌<◌}
+use Prim.Native.Nat.{◌+◌, ◌≤◌, ◌<◌}
 use native.Mathlib.Omega.{arith}
 use Rattle.layout.specs.Entries.{entries}
 use Rattle.merging.proofs.Ways.{sparse_few, sparse_range, sparse_start, sparse_ready, sparse_more, sparse_end}

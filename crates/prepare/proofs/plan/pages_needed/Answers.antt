@@ -1,8 +1,7 @@
 use mathlib.Core.Path.{sym}
-use Prim.Native.Nat.{◌-◌}
 use native.Mathlib.Omega.{arith}
 use Rattle.sums.proofs.Counts.{byte_le, count_zero}
-use Rattle.prepare.proofs.PreparePlans.{dense_past, past_more, pages_are}
+use Rattle.prepare.proofs.PreparePlans.{past_more, pages_are}
 use Rattle.prepare.proofs.plan.pages_needed.Goals as goal
 
 pub overflow_add-n : goal.overflow_add-n

@@ -1,5 +1,4 @@
 use mathlib.Core.Path.{sym, subst}
-use Prim.Native.Nat.{◌-◌}
 use native.Mathlib.Omega.{arith}
 use Rattle.document.specs.Sizes.{InRange}
 use Rattle.prepare.proofs.Steady.{sound_range, underway_none, underway_turn, underway_more, underway_end}

@@ -1,4 +1,3 @@
-use Prim.Native.Nat.{◌-◌}
 use native.Mathlib.Omega.{arith}
 use Rattle.rank_counts.proofs.Counting.{paged_start, paged_more, paged_end}
 use Rattle.rank_counts.proofs.blocks.count_pages.Goals as goal

@@ -1,4 +1,3 @@
-use Prim.Native.Nat.{◌-◌}
 use native.Mathlib.Omega.{arith}
 use Rattle.dense.proofs.Counts.{bits_le}
 use Rattle.rank_counts.proofs.Counting.{counted_start, counted_small, counted_more, counted_end}

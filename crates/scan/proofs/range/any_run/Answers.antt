@@ -1,5 +1,4 @@
 use mathlib.Core.Path.{sym, ◌∙◌}
-use Prim.Native.Nat.{◌-◌}
 use native.Mathlib.Omega.{arith}
 use Rattle.layout.specs.Mem.{mem}
 use Rattle.entries.proofs.Runs.{run}
