@@ -1,4 +1,3 @@
--- TODO ('need', 'overflow-cast-off')
 use mathlib.Core.Path.{◌≡◌, refl, ap, ◌∙◌}
 use Prim.Native.Nat.{◌^◌}
 use native.Mathlib.Omega.{arith}

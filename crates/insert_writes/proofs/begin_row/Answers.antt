@@ -1,6 +1,3 @@
--- TODO ('field', ['well-formed'])
--- TODO ('field', ['well-formed'])
--- TODO ('need', 'slice-bounds-insert-at-end')
 -- The row as a part of the pool, with its first offset. Assumes nothing.
 use mathlib.Core.Path.{refl}
 use mathlib.Core.List.{List}

@@ -1,6 +1,3 @@
--- TODO ('field', ['well-formed'])
--- TODO ('field', ['well-formed'])
--- TODO ('need', 'slice-bounds-insert-at-end')
 -- The row, put back, then the word. Assumes nothing.
 use mathlib.Core.Path.{◌∙◌, ap}
 use Prim.Native.Nat.{◌+◌, ◌≤◌}

@@ -1,9 +1,3 @@
--- TODO ('field', ['well-formed'])
--- TODO ('field', ['well-formed'])
--- TODO ('field', ['well-formed'])
--- TODO ('need', 'slice-bounds-fill-end')
--- TODO ('field', ['well-formed'])
--- TODO ('need', 'slice-bounds-fill-end-2')
 -- The page as a part of the pool, the row as a part of its own. Assumes nothing.
 use Prim.Native.Nat.{◌+◌, ◌-◌, ◌*◌, ◌≤◌, ◌<◌}
 use native.Mathlib.Omega.{arith}

@@ -1,6 +1,3 @@
--- TODO ('field', ['well-formed'])
--- TODO ('field', ['well-formed'])
--- TODO ('need', 'slice-bounds-below-end')
 -- Nothing in no part; a search in a row; one block of a page. Assumes nothing.
 use mathlib.Core.Path.{sym, ap, subst, ◌∙◌}
 use mathlib.Core.List.{[]}

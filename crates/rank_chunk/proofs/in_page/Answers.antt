@@ -1,4 +1,3 @@
--- TODO ('need', 'overflow-cast-t10')
 -- One block count, and the words of one block. Assumes nothing.
 use Prim.Native.Nat.{◌+◌, ◌/◌}
 use native.Mathlib.Omega.{arith}

@@ -1,5 +1,3 @@
--- TODO ('field', ['well-formed'])
--- TODO ('field', ['well-formed'])
 -- By the part that the entry names: nothing, a length, a count of bits. Assumes nothing.
 use mathlib.Core.Path.{◌≡◌, sym, ◌∙◌}
 use Prim.Native.Nat.{◌≤◌}

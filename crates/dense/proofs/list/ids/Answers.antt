@@ -1,4 +1,3 @@
--- TODO ('helper', 'begun')
 use Rattle.dense.proofs.list.ids.Lts
 use Rattle.dense.proofs.list.ids.Tie
 use Rattle.dense.proofs.list.ids.Reads

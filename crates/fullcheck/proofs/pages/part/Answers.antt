@@ -1,4 +1,3 @@
--- TODO ('need', 'slice-bounds-result-end')
 -- The page lies inside its pool.
 use Prim.Native.Nat.{◌+◌, ◌*◌, ◌≤◌}
 use native.Mathlib.Omega.{arith}

@@ -1,5 +1,3 @@
--- TODO ('need', 'slice-bounds-list-is-start')
--- TODO ('need', 'slice-bounds-list-is-end')
 -- Row r is a part of the pool.
 use native.Mathlib.Omega.{arith}
 use Rattle.fullcheck.proofs.Ways.{part_inside, part_length, list_part}

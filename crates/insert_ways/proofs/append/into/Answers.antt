@@ -1,4 +1,3 @@
--- TODO ('field', ['well_formed'])
 -- The row that a direct entry names, and the place behind its members. Assumes nothing.
 use mathlib.Core.Path.{◌≡◌, sym, ◌∙◌}
 use Prim.Native.Nat.{◌<◌}

@@ -1,7 +1,3 @@
--- TODO ('field', ['well-formed'])
--- TODO ('field', ['well-formed'])
--- TODO ('field', ['well-formed'])
--- TODO ('field', ['well-formed'])
 -- Nothing from no part; a row's offsets, a page's bits. Assumes nothing.
 use mathlib.Core.Path.{sym, ◌∙◌}
 use native.Mathlib.Omega.{arith}

@@ -1,4 +1,3 @@
--- TODO ('field', ['well-formed'])
 -- The tests are those on a page. Assumes nothing.
 use native.Mathlib.Omega.{arith}
 use mathlib.Core.Path.{ap}

@@ -1,9 +1,3 @@
--- TODO ('field', ['well-formed'])
--- TODO ('field', ['well-formed'])
--- TODO ('need', 'slice-bounds-contains-end')
--- TODO ('field', ['well-formed'])
--- TODO ('field', ['well-formed'])
--- TODO ('need', 'slice-bounds-contains-end-2')
 -- Nothing is in no part; a row is searched, a bit is looked up. Assumes nothing.
 use mathlib.Core.Path.{subst, sym, ap}
 use native.Mathlib.Omega.{arith}

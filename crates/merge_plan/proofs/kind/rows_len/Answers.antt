@@ -1,9 +1,3 @@
--- TODO ('field', ['well-formed'])
--- TODO ('field', ['well-formed'])
--- TODO ('field', ['well-formed'])
--- TODO ('need', 'slice-bounds-union-len-end')
--- TODO ('field', ['well_formed'])
--- TODO ('need', 'slice-bounds-union-len-end-2')
 -- Both rows lie inside their slices. Assumes nothing.
 use mathlib.Core.Path.{◌∙◌, ap₂}
 use mathlib.Core.List.{List}

@@ -1,6 +1,3 @@
--- TODO ('field', ['well-formed'])
--- TODO ('field', ['well-formed'])
--- TODO ('need', 'slice-bounds-copy-end')
 -- The page as a part of its pool, copied whole. Assumes nothing.
 use mathlib.Core.Path.{◌∙◌}
 use mathlib.Core.List.{List}

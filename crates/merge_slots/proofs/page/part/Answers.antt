@@ -1,6 +1,3 @@
--- TODO ('field', ['well-formed'])
--- TODO ('field', ['well-formed'])
--- TODO ('need', 'slice-bounds-result-end')
 -- The page lies inside its pool. Assumes nothing.
 use Prim.Native.Nat.{◌+◌, ◌*◌, ◌≤◌}
 use native.Mathlib.Omega.{arith}

@@ -1,6 +1,3 @@
--- TODO ('field', ['well-formed'])
--- TODO ('field', ['well-formed'])
--- TODO ('need', 'slice-bounds-result-end')
 -- The row lies inside its pool. Assumes nothing.
 use mathlib.Core.Path.{refl}
 use Prim.Native.Nat.{◌+◌, ◌*◌, ◌≤◌}

@@ -1,6 +1,3 @@
--- TODO ('field', ['well-formed'])
--- TODO ('field', ['well-formed'])
--- TODO ('need', 'slice-bounds-count-words-end')
 -- The page's words, as a part of the pool. Assumes nothing.
 use native.Mathlib.Omega.{arith}
 use Rattle.rank_counts.proofs.Counting.{page_fits, page_wide, page_long, page_counted}

@@ -1,6 +1,3 @@
--- TODO ('field', ['well-formed'])
--- TODO ('field', ['well-formed'])
--- TODO ('need', 'slice-bounds-block-at-end')
 -- The last count, and the last block. Assumes nothing.
 use native.Mathlib.Omega.{arith}
 use Rattle.rank_counts.proofs.Counting.{shifts, page_fits, page_wide, page_long, page_total, total_small}

@@ -1,7 +1,3 @@
--- TODO ('field', ['well-formed'])
--- TODO ('field', ['well-formed'])
--- TODO ('field', ['well-formed'])
--- TODO ('field', ['well-formed'])
 -- Nothing is in no part; a row is searched, bits are looked through. Assumes nothing.
 use mathlib.Core.Path.{refl, sym, ◌∙◌}
 use native.Mathlib.Omega.{arith}

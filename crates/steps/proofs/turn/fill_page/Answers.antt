@@ -1,9 +1,3 @@
--- TODO ('field', ['well-formed'])
--- TODO ('field', ['well-formed'])
--- TODO ('field', ['well-formed'])
--- TODO ('need', 'slice-bounds-write-row-end')
--- TODO ('field', ['well-formed'])
--- TODO ('need', 'slice-bounds-write-row-end-2')
 -- The page as a part of the pool, the row as a part of its own. Assumes nothing.
 use mathlib.Core.List.{List}
 use Prim.Native.Nat.{ℕ, ◌+◌, ◌-◌, ◌*◌, ◌≤◌, ◌<◌}
