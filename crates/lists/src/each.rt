@@ -24,6 +24,8 @@ pub const NO_RANK: u64 = 0xffff_ffff_ffff_ffff;
 
 // ---- membership: 1 for a member, 0 for another id
 
+const NO_MEMBER: u8 = 0;
+
 // Offset o of a chunk past the direct entries.
 fn far_has(
     pages: &[u64],
@@ -140,7 +142,7 @@ pub fn rank_if(pages: &[u64], rows: &[u32], blocks: &[u32], table: &[u64], h: Si
     let Split::At(c, o) = ids::split(id, h.s) else {
         return NO_RANK;
     };
-    if there(pages, rows, blocks, table, h, id, c, o) == 0 {
+    if there(pages, rows, blocks, table, h, id, c, o) == NO_MEMBER {
         return NO_RANK;
     }
     number::of_amount(rank::rank(pages, rows, blocks, table, id))

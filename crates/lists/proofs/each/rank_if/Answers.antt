@@ -26,11 +26,11 @@ pub there-requires : goal.there-requires
 there-requires c =
     (c.requires.0, (let known : let a_1 = c.args in At c.in-At.c c.in-At.o ≡ split_of a_1.h.s a_1.id = split_is _ c.args.id c.ranges.id _ c.split.ensures _ c.in-At.is in known) ∙ sym (hop (split_of c.args.h.s) c.args.id c.ranges.id), ((let known : (c.in-At.c < 2 ^ 62) × (c.in-At.o < 2 ^ c.args.h.s) = lies_small c.requires.0 c.args.id c.ranges.id _ _ ((let known : let a_3 = c.args in At c.in-At.c c.in-At.o ≡ split_of a_3.h.s a_3.id = split_is _ c.args.id c.ranges.id _ c.split.ensures _ c.in-At.is in known)) in known)).0)
 
-pub returns-then-there-eq0 : goal.returns-then-there-eq0
-returns-then-there-eq0 c =
-    rank_if_none c.requires.0.walks c.requires.1 c.args.id (sym ((let known : c.there.result ≡ one_by ((mem c.args.pages.now c.args.rows.now c.args.blocks.now c.args.table.now)) get_all c.args.id = c.there.ensures ∙ hop (one_by ((mem c.args.pages.now c.args.rows.now c.args.blocks.now c.args.table.now)) get_all) c.args.id c.ranges.id in known)) ∙ c.if-there-eq0.true)
+pub returns-then-there-eq-NO_MEMBER : goal.returns-then-there-eq-NO_MEMBER
+returns-then-there-eq-NO_MEMBER c =
+    rank_if_none c.requires.0.walks c.requires.1 c.args.id (sym ((let known : c.there.result ≡ one_by ((mem c.args.pages.now c.args.rows.now c.args.blocks.now c.args.table.now)) get_all c.args.id = c.there.ensures ∙ hop (one_by ((mem c.args.pages.now c.args.rows.now c.args.blocks.now c.args.table.now)) get_all) c.args.id c.ranges.id in known)) ∙ c.if-there-eq-NO_MEMBER.true)
 
 pub returns : goal.returns
 returns c =
     c.of_amount.ensures ∙ ap amount_number (rank_by_law ((mem c.args.pages.now c.args.rows.now c.args.blocks.now c.args.table.now)) _ _ c.rank.ensures ∙ hop (rank_by ((mem c.args.pages.now c.args.rows.now c.args.blocks.now c.args.table.now))) c.args.id c.ranges.id)
-    ∙ rank_if_some c.requires.0.walks c.requires.1 c.args.id (λ e. c.if-there-eq0.false ((let known : c.there.result ≡ one_by ((mem c.args.pages.now c.args.rows.now c.args.blocks.now c.args.table.now)) get_all c.args.id = c.there.ensures ∙ hop (one_by ((mem c.args.pages.now c.args.rows.now c.args.blocks.now c.args.table.now)) get_all) c.args.id c.ranges.id in known) ∙ e))
+    ∙ rank_if_some c.requires.0.walks c.requires.1 c.args.id (λ e. c.if-there-eq-NO_MEMBER.false ((let known : c.there.result ≡ one_by ((mem c.args.pages.now c.args.rows.now c.args.blocks.now c.args.table.now)) get_all c.args.id = c.there.ensures ∙ hop (one_by ((mem c.args.pages.now c.args.rows.now c.args.blocks.now c.args.table.now)) get_all) c.args.id c.ranges.id in known) ∙ e))
