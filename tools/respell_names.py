@@ -7,7 +7,7 @@ It runs once, after the kit's port.py, which spells anew only the names that the
 A name that the files of specs/ and proofs/ declare, and that begins with a small letter, gets underscores for its dashes and humps.
 Where two names would fall together in one place, the definition keeps the plain name and the lemma gets the ending _law (LAWS, by the names found so).
 Names that Rattle makes, the labels of goals, stay, and so do functions of src/, strings, inputs and outputs.
-Edits of must-fail/ follow, and so do names in backquotes in README.md and docs/.
+Edits of must-fail/ follow; README.md and docs/ are turned by hand.
 --check says which names fall together and writes nothing."""
 
 import collections
