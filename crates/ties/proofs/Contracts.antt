@@ -58,7 +58,7 @@ use Rattle.range_list.specs.contracts.ends.mark_ends_by_partition as mark_ends_b
 use Rattle.lists.specs.contracts.read.get_all as get_all
 use Rattle.lists.specs.contracts.read.rank_all as rank_all
 use Rattle.lists.specs.contracts.read.rank_if_set_all as rank_if_set_all
-use Rattle.lists.specs.contracts.insert.insert_all as insertAll
+use Rattle.lists.specs.contracts.insert.insert_all as insert_all
 use Rattle.numbers.specs.contracts.budget.slots_for_budget as budgeting
 use Rattle.numbers.specs.contracts.budget.file_bounded_max_id as bounding
 use Rattle.idset.proofs.setup.set_up.Symbol as set_up-at
@@ -71,11 +71,11 @@ use Rattle.merging.proofs.merge.Symbol as merge-at
 use Rattle.ranked.proofs.form.into_ranked.Symbol as into_ranked-at
 use Rattle.ranked.proofs.form.into_open.Symbol as leaving-at
 use Rattle.idset.proofs.read.get.Symbol as get_at
-use Rattle.idset.proofs.read.chunk_of.Symbol as chunkOf-at
+use Rattle.idset.proofs.read.chunk_of.Symbol as chunk_of-at
 use Rattle.scan.proofs.range.any_in_range.Symbol as ranging-at
 use Rattle.iteration.proofs.listing.iter_from.Symbol as iter_from-at
 use Rattle.counts.proofs.count.len.Symbol as len-at
-use Rattle.counts.proofs.count.is_empty.Symbol as isEmpty-at
+use Rattle.counts.proofs.count.is_empty.Symbol as is_empty-at
 use Rattle.counts.proofs.count.has_any.Symbol as has_any-at
 use Rattle.counts.proofs.count.allocated_chunk_count.Symbol as allocated_chunk_count-at
 use Rattle.ranked.proofs.rank.rank.Symbol as rank_at
@@ -95,7 +95,7 @@ use Rattle.range_list.proofs.ends.mark_ends_by_partition.Symbol as mark_ends_by_
 use Rattle.lists.proofs.read.get_all.Symbol as get_all-at
 use Rattle.lists.proofs.read.rank_all.Symbol as rank_all-at
 use Rattle.lists.proofs.read.rank_if_set_all.Symbol as rank_if_set_all-at
-use Rattle.lists.proofs.insert.insert_all.Symbol as insertAll-at
+use Rattle.lists.proofs.insert.insert_all.Symbol as insert_all-at
 use Rattle.numbers.proofs.budget.slots_for_budget.Symbol as budgeting-at
 use Rattle.numbers.proofs.budget.file_bounded_max_id.Symbol as bounding-at
 use Rattle.idset.proofs.setup.set_up.Met as set_up-met
@@ -108,11 +108,11 @@ use Rattle.merging.proofs.merge.Met as merge-met
 use Rattle.ranked.proofs.form.into_ranked.Met as into_ranked-met
 use Rattle.ranked.proofs.form.into_open.Met as leaving-met
 use Rattle.idset.proofs.read.get.Met as get-met
-use Rattle.idset.proofs.read.chunk_of.Met as chunkOf-met
+use Rattle.idset.proofs.read.chunk_of.Met as chunk_of-met
 use Rattle.scan.proofs.range.any_in_range.Met as ranging-met
 use Rattle.iteration.proofs.listing.iter_from.Met as iter_from-met
 use Rattle.counts.proofs.count.len.Met as len-met
-use Rattle.counts.proofs.count.is_empty.Met as isEmpty-met
+use Rattle.counts.proofs.count.is_empty.Met as is_empty-met
 use Rattle.counts.proofs.count.has_any.Met as has_any-met
 use Rattle.counts.proofs.count.allocated_chunk_count.Met as allocated_chunk_count-met
 use Rattle.ranked.proofs.rank.rank.Met as rank-met
@@ -132,7 +132,7 @@ use Rattle.range_list.proofs.ends.mark_ends_by_partition.Met as mark_ends_by_par
 use Rattle.lists.proofs.read.get_all.Met as get_all-met
 use Rattle.lists.proofs.read.rank_all.Met as rank_all-met
 use Rattle.lists.proofs.read.rank_if_set_all.Met as rank_if_set_all-met
-use Rattle.lists.proofs.insert.insert_all.Met as insertAll-met
+use Rattle.lists.proofs.insert.insert_all.Met as insert_all-met
 use Rattle.numbers.proofs.budget.slots_for_budget.Met as budgeting-met
 use Rattle.numbers.proofs.budget.file_bounded_max_id.Met as bounding-met
 
@@ -242,7 +242,7 @@ module _ {M : Type 1} {𝓤 : Ura M} (𝓛 : Logic 𝓤) where
     pub rank_if_set_all_is : rank_if_set_all.spec 𝓛 m run ≡ Ensures 𝓛 rank_if_set_all.ended (λ κs a r e. AnswersAll (four a.1.1) listwise.rank_if_all a.0.now a.1.0.now r e.1.0.now)
     rank_if_set_all_is = refl
 
-    pub insert_all_is : insertAll.spec 𝓛 m run ≡ Ensures 𝓛 insertAll.ended (λ κs a r e. InsertsAll (lent a.1) a.0.now r (lent e.1))
+    pub insert_all_is : insert_all.spec 𝓛 m run ≡ Ensures 𝓛 insert_all.ended (λ κs a r e. InsertsAll (lent a.1) a.0.now r (lent e.1))
     insert_all_is = refl
 
     pub slots_for_budget_is : budgeting.spec 𝓛 m run ≡ Ensures 𝓛 budgeting.ended (λ κs a r e. r ≡ slots_for_budget a.0)
@@ -292,9 +292,9 @@ module _ {M : Type 1} {𝓤 : Ura M} (𝓛 : Logic 𝓤) where
         (Ensures 𝓛 get.ended (λ κs a r e. Answers (four a) (calls.get a.1.1.1.1.0) (whether r)))
     get_meets = get-met.met 𝓤 𝓛 𝓜 𝓡
 
-    pub chunk_of_meets : Wired 𝓡.env chunkOf-at.code → Meets 𝓛 chunk_of.signature (𝓡.run (𝓡.env chunkOf-at.name))
+    pub chunk_of_meets : Wired 𝓡.env chunk_of-at.code → Meets 𝓛 chunk_of.signature (𝓡.run (𝓡.env chunk_of-at.name))
         (Ensures 𝓛 chunk_of.ended (λ κs a r e. Answers (four a) (calls.chunk_id a.1.1.1.1.0) (maybe r)))
-    chunk_of_meets = chunkOf-met.met 𝓤 𝓛 𝓜 𝓡
+    chunk_of_meets = chunk_of-met.met 𝓤 𝓛 𝓜 𝓡
 
     pub any_in_range_meets : Wired 𝓡.env ranging-at.code → Meets 𝓛 ranging.signature (𝓡.run (𝓡.env ranging-at.name))
         (Ensures 𝓛 ranging.ended (λ κs a r e. Answers (four a) (calls.range_test a.1.1.1.1.0 a.1.1.1.1.1.0) (whether r)))
@@ -308,9 +308,9 @@ module _ {M : Type 1} {𝓤 : Ura M} (𝓛 : Logic 𝓤) where
         (Ensures 𝓛 len.ended (λ κs a r e. Answers (four a) calls.len (many r)))
     len_meets = len-met.met 𝓤 𝓛 𝓜 𝓡
 
-    pub is_empty_meets : Wired 𝓡.env isEmpty-at.code → Meets 𝓛 is_empty.signature (𝓡.run (𝓡.env isEmpty-at.name))
+    pub is_empty_meets : Wired 𝓡.env is_empty-at.code → Meets 𝓛 is_empty.signature (𝓡.run (𝓡.env is_empty-at.name))
         (Ensures 𝓛 is_empty.ended (λ κs a r e. Answers (four a) calls.is_empty (whether r)))
-    is_empty_meets = isEmpty-met.met 𝓤 𝓛 𝓜 𝓡
+    is_empty_meets = is_empty-met.met 𝓤 𝓛 𝓜 𝓡
 
     pub has_any_meets : Wired 𝓡.env has_any-at.code → Meets 𝓛 has_any.signature (𝓡.run (𝓡.env has_any-at.name))
         (Ensures 𝓛 has_any.ended (λ κs a r e. Answers (four a) calls.has_any (whether r)))
@@ -388,9 +388,9 @@ module _ {M : Type 1} {𝓤 : Ura M} (𝓛 : Logic 𝓤) where
         (Ensures 𝓛 rank_if_set_all.ended (λ κs a r e. AnswersAll (four a.1.1) listwise.rank_if_all a.0.now a.1.0.now r e.1.0.now))
     rank_if_set_all_meets = rank_if_set_all-met.met 𝓤 𝓛 𝓜 𝓡
 
-    pub insert_all_meets : Wired 𝓡.env insertAll-at.code → Meets 𝓛 insertAll.signature (𝓡.run (𝓡.env insertAll-at.name))
-        (Ensures 𝓛 insertAll.ended (λ κs a r e. InsertsAll (lent a.1) a.0.now r (lent e.1)))
-    insert_all_meets = insertAll-met.met 𝓤 𝓛 𝓜 𝓡
+    pub insert_all_meets : Wired 𝓡.env insert_all-at.code → Meets 𝓛 insert_all.signature (𝓡.run (𝓡.env insert_all-at.name))
+        (Ensures 𝓛 insert_all.ended (λ κs a r e. InsertsAll (lent a.1) a.0.now r (lent e.1)))
+    insert_all_meets = insert_all-met.met 𝓤 𝓛 𝓜 𝓡
 
     pub slots_for_budget_meets : Wired 𝓡.env budgeting-at.code → Meets 𝓛 budgeting.signature (𝓡.run (𝓡.env budgeting-at.name))
         (Ensures 𝓛 budgeting.ended (λ κs a r e. r ≡ slots_for_budget a.0))
