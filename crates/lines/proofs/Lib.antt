@@ -1,3 +1,4 @@
 pub mod Lines
+pub mod Magnitudes
 pub mod Splits
 pub mod Ways

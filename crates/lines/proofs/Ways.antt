@@ -13,7 +13,7 @@ use mir.Facts.{to_z-of_z, to_z_pos}
 use borrow.Author.Tests.{leb-true, ltb-true, le-leb, lt-leb, lt-ltb, le-ltb, eq-eqb, ne_eqb}
 use Rattle.sums.proofs.Rules.{both}
 use Rattle.lines.specs.Line.{all_digits, value, positive, negative, id_line}
-use Rattle.lines.specs.Reader.{digit_on, next}
+use Rattle.lines.specs.Reader.{digit_on, next, id_in}
 use Rattle.lines.specs.declared.Line.{Line}
 use Rattle.lines.specs.declared.Line.TheVariants.{Empty, Digits, Bad}
 use Rattle.lines.specs.declared.Id.TheVariants as id
@@ -77,6 +77,31 @@ module _ (v : ℕ) (h : v ≤ 2 ^ 63) (n : v ≡ 9223372036854775808 → ⊥) wh
 
   pub sub_says : to_z w64 (of_z w64 (pos 0 -ℤ to_z w64 v)) ≡ neg_ℤ (pos v)
   sub_says = to_z-of_z sub_fits ∙ sub_is v below
+
+-- ---- an id
+
+module _ (n v : ℕ) where
+  pub id_few : (m : Bool) → n < 1 → id.Bad ≡ id_in (Digits m n v)
+  id_few m h = sym (rw (lt-leb 1 n h))
+
+  pub id_many : (m : Bool) → 19 < n → id.Bad ≡ id_in (Digits m n v)
+  id_many m h = let l : 1 ≤ n = omega arith in sym (rw (le-leb 1 n l, lt-leb n 19 h))
+
+  module _ (lo : 1 ≤ n) (hi : n ≤ 19) where
+    pub id_deep : 9223372036854775808 < v → id.Bad ≡ id_in (Digits true n v)
+    id_deep h = sym (rw (le-leb 1 n lo, le-leb n 19 hi, lt-leb v (2 ^ 63) h))
+
+    pub id_negative : (z : ℤ) → v ≤ 9223372036854775808 → z ≡ neg_ℤ (pos v) → id.Of (to_z w64 (of_z w64 z)) ≡ id_in (Digits true n v)
+    id_negative z h e =
+        ap (λ (x : ℤ). id.Of (to_z w64 (of_z w64 x))) e
+        ∙ ap id.Of (to_z-of_z (neg_fits v h))
+        ∙ sym (rw (le-leb 1 n lo, le-leb n 19 hi, le-leb v (2 ^ 63) h))
+
+    pub id_high : 9223372036854775808 ≤ v → id.Bad ≡ id_in (Digits false n v)
+    id_high h = sym (rw (le-leb 1 n lo, le-leb n 19 hi, le-ltb v (2 ^ 63) h))
+
+    pub id_positive : v < 9223372036854775808 → id.Of (to_z w64 v) ≡ id_in (Digits false n v)
+    id_positive h = ap id.Of (to_z_pos w64 h) ∙ sym (rw (le-leb 1 n lo, le-leb n 19 hi, lt-ltb v (2 ^ 63) h))
 
 -- ---- what a line says as an id fits an i64
 
