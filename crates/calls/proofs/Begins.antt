@@ -24,17 +24,18 @@ use Rattle.layout_laws.proofs.Sizes.{row_length}
 use Rattle.steps.specs.Steps.{rowed}
 use Rattle.steps.specs.Effects.{EntryFor, RowFor, Becomes}
 use Rattle.steps.proofs.Rowed.{rowed_becomes}
-use Rattle.document.specs.declared.answer.Truth.TheVariants.{Is}
 use Rattle.calls.specs.Insert.{free_row, start_chunk}
 use Rattle.document.specs.Insert.{chunk_size, grown, new_answer}
 use Rattle.document.specs.Room.{overflows, sparses, denses, verdict}
-use Rattle.calls.specs.declared.plan.Plan.TheVariants.{Refuse, Begin}
 use Rattle.layout.proofs.FirstFree.{lowest, found_less, none_full}
 use Rattle.calls.proofs.Verdicts.{verdict_six, verdict_seven, verdict_room, overflows_is, sparses_is, denses_fit, overflows_fit, Needs}
 use Rattle.calls.proofs.RowEdits.{length_entered, member_entered, listed_entered, listed_free, first_place}
 use Rattle.calls.proofs.Plans.{start_chunk_law}
 use Rattle.calls.proofs.Grown.{refuses, grows}
 use Rattle.calls.proofs.Wanted.{chunk, offset, placed, after, Good, Into, offset_in, open_at, holds_of, kind_of_law, wanted_new, grown_needs}
+use Rattle.calls.specs.declared.plan.Plan.TheVariants.{Begin}
+use Rattle.document.specs.Refusals.{overflow_full, rows_full}
+use Rattle.std.specs.Prelude.{Err, Ok}
 
 module _ {x : Mem} {n : ℕ} (i : Into x n) (e : placed x n ≡ Absent) where
   abbrev w : Follows x
@@ -52,7 +53,7 @@ module _ {x : Mem} {n : ℕ} (i : Into x n) (e : placed x n ≡ Absent) where
   same_pages : denses (head x) (after x n) + 0 ≡ denses (head x) (kinds x) + 0
   same_pages = d.pages
 
-  wanted : new_answer (state_of x) (pos n) ≡ verdict (head x) (after x n) (Is true)
+  wanted : new_answer (state_of x) (pos n) ≡ verdict (head x) (after x n) (Ok true)
   wanted = wanted_new i (holds_of i Absent e)
 
   -- ---- a row is free
@@ -92,7 +93,7 @@ module _ {x : Mem} {n : ℕ} (i : Into x n) (e : placed x n ≡ Absent) where
           came = RowFor.new_row e low en;
         })
 
-    begin_good : overflows (head x) (after x n) ≤ (head x).v → EntryFor (head x) x.table (chunk x n) → Good x n (Begin (free_row x))
+    begin_good : overflows (head x) (after x n) ≤ (head x).v → EntryFor (head x) x.table (chunk x n) → Good x n (Ok (Begin (free_row x)))
     begin_good ov en =
         let s = sparses_is w in
         let u = found_less w.rows_full_to there in
@@ -106,27 +107,27 @@ module _ {x : Mem} {n : ℕ} (i : Into x n) (e : placed x n ≡ Absent) where
         ∙ ap (λ (b : Bool). b || eqb (offset x n) j) (member_none (row_of row) j)
         ∙ ap (λ (q : Place). offsets (head x) x q j || eqb (offset x n) j) (sym e))
         (new_answer (state_of x) (pos n))
-        (wanted ∙ verdict_room (head x) (after x n) (Is true) ov (omega arith) (omega arith))
+        (wanted ∙ verdict_room (head x) (after x n) (Ok true) ov (omega arith) (omega arith))
         (sym (ap (λ (k : Kind). grown k (chunk_size (state_of x) (chunk x n)) (head x).m) (kind_of_law i Absent e)))
         (subst (λ (q : Place). Moves x q (Sparse (free_row x) 1)) (sym e) low)
 
   -- ---- 7, 6
 
-  seven : overflows (head x) (after x n) ≤ (head x).v → EntryFor (head x) x.table (chunk x n) → (b : Bool) → ltb (free_row x) (head x).r ≡ b → Good x n (cond b (Begin (free_row x)) (Refuse 7))
+  seven : overflows (head x) (after x n) ≤ (head x).v → EntryFor (head x) x.table (chunk x n) → (b : Bool) → ltb (free_row x) (head x).r ≡ b → Good x n (cond b (Ok (Begin (free_row x))) (Err rows_full))
   seven ov en true q = begin_good (ltb-true (free_row x) (head x).r q) ov en
   seven ov en false q =
       let s = sparses_is w in
       let f = none_full w.rows_full_to (ltb-false (free_row x) (head x).r q) in
       let m = one_more in
-      refuses x w (pos n) (new_answer (state_of x) (pos n)) 7 (wanted ∙ verdict_seven (head x) (after x n) (Is true) ov (omega arith))
+      refuses x w (pos n) (new_answer (state_of x) (pos n)) rows_full (wanted ∙ verdict_seven (head x) (after x n) (Ok true) ov (omega arith))
 
   six : (a : Bool) → leb (head x).d (chunk x n) ≡ a → (b : Bool) → leb (head x).v (over_count x.table) ≡ b
-      → Good x n (cond (a && b) (Refuse 6) (cond (ltb (free_row x) (head x).r) (Begin (free_row x)) (Refuse 7)))
+      → Good x n (cond (a && b) (Err overflow_full) (cond (ltb (free_row x) (head x).r) (Ok (Begin (free_row x))) (Err rows_full)))
   six true p true q =
       let s = overflows_is w in
       let l = leb-true (head x).v (over_count x.table) q in
       let u : overflows (head x) (after x n) + 0 ≡ overflows (head x) (kinds x) + 1 = d.over true p in
-      refuses x w (pos n) (new_answer (state_of x) (pos n)) 6 (wanted ∙ verdict_six (head x) (after x n) (Is true) (omega arith))
+      refuses x w (pos n) (new_answer (state_of x) (pos n)) overflow_full (wanted ∙ verdict_six (head x) (after x n) (Ok true) (omega arith))
   six true p false q =
       let s = overflows_is w in
       let l = leb-false (head x).v (over_count x.table) q in

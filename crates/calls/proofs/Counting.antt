@@ -20,8 +20,6 @@ use Rattle.layout.specs.Meaning.{holds, state_of}
 use Rattle.document.specs.Answers.{chunks_in}
 use Rattle.layout.specs.Follows.{size_of, members_at, Follows}
 use Rattle.document.specs.declared.sizes.Sizes.{Sizes}
-use Rattle.document.specs.declared.answer.Truth.TheVariants as truth
-use Rattle.document.specs.declared.answer.Amount.TheVariants as amount
 use Rattle.layout.specs.declared.place.Place.{Place}
 use Rattle.layout.specs.declared.place.Place.TheVariants.{Absent, Sparse, Dense}
 use Rattle.layout_laws.proofs.Entries.{laid_ordered}
@@ -32,6 +30,8 @@ use Rattle.layout_laws.proofs.ChunkCounts.{chunks_entries}
 use Rattle.calls.specs.Reading.{spot_by}
 use Rattle.calls.specs.Counts.{entries_ok, entries_of, word_by, is_good, size_in, good_at, size_by, used_at, parts_ok, len_by, is_empty_by, has_any_by, chunks_by}
 use Rattle.calls.proofs.Readings.{shift_ok_law}
+use Rattle.document.specs.Refusals.{not_laid_out}
+use Rattle.std.specs.Prelude.{Err, Ok}
 
 -- ---- a part, by its place
 
@@ -77,26 +77,26 @@ module _ {x : Mem} (w : Follows x) where
   size_total : sum_to (size_by x) (entries_of x) ≡ total (holds x)
   size_total = sum_ext (size_by x) (members_at (head x) x) (entries_of x) size_at ∙ sym (count_total w)
 
-  pub len_is : len_by x ≡ amount.Of (total (holds x))
+  pub len_is : len_by x ≡ Ok (total (holds x))
   unfolding len_by
-  len_is = ap (λ (b : Bool). cond b (amount.Of (sum_to (size_by x) (entries_of x))) (amount.Refused 3)) parts_ok_law ∙ ap amount.Of size_total
+  len_is = ap (λ (b : Bool). cond b (Ok (sum_to (size_by x) (entries_of x))) (Err not_laid_out)) parts_ok_law ∙ ap Ok size_total
 
-  pub empty_is : is_empty_by x ≡ truth.Is (eqb (total (holds x)) 0)
+  pub empty_is : is_empty_by x ≡ Ok (eqb (total (holds x)) 0)
   unfolding is_empty_by
   empty_is =
-      ap (λ (b : Bool). cond b (truth.Is (all_to (λ (e : ℕ). eqb (size_by x e) 0) (entries_of x))) (truth.Refused 3)) parts_ok_law
-      ∙ ap truth.Is (all_zero (size_by x) (entries_of x) ∙ ap (λ (n : ℕ). eqb n 0) size_total)
+      ap (λ (b : Bool). cond b (Ok (all_to (λ (e : ℕ). eqb (size_by x e) 0) (entries_of x))) (Err not_laid_out)) parts_ok_law
+      ∙ ap Ok (all_zero (size_by x) (entries_of x) ∙ ap (λ (n : ℕ). eqb n 0) size_total)
 
   used_count : count (used_at x) (entries_of x) ≡ chunks_in (state_of x)
   unfolding used_at
   used_count = sym (chunks_entries x (laid_ordered w))
 
-  pub chunks_is : chunks_by x ≡ amount.Of (chunks_in (state_of x))
+  pub chunks_is : chunks_by x ≡ Ok (chunks_in (state_of x))
   unfolding chunks_by
-  chunks_is = ap (λ (b : Bool). cond b (amount.Of (count (used_at x) (entries_of x))) (amount.Refused 3)) entries_ok_law ∙ ap amount.Of used_count
+  chunks_is = ap (λ (b : Bool). cond b (Ok (count (used_at x) (entries_of x))) (Err not_laid_out)) entries_ok_law ∙ ap Ok used_count
 
-  pub any_is : has_any_by x ≡ truth.Is (not (eqb (chunks_in (state_of x)) 0))
+  pub any_is : has_any_by x ≡ Ok (not (eqb (chunks_in (state_of x)) 0))
   unfolding has_any_by
   any_is =
-      ap (λ (b : Bool). cond b (truth.Is (not (eqb (count (used_at x) (entries_of x)) 0))) (truth.Refused 3)) entries_ok_law
-      ∙ ap (λ (n : ℕ). truth.Is (not (eqb n 0))) used_count
+      ap (λ (b : Bool). cond b (Ok (not (eqb (count (used_at x) (entries_of x)) 0))) (Err not_laid_out)) entries_ok_law
+      ∙ ap (λ (n : ℕ). Ok (not (eqb n 0))) used_count

@@ -26,16 +26,16 @@ use Rattle.steps.specs.Steps.{rowed}
 use Rattle.steps.specs.Effects.{RowFor, Becomes}
 use Rattle.steps.proofs.Words.{put_word_law}
 use Rattle.steps.proofs.Rowed.{rowed_becomes}
-use Rattle.document.specs.declared.answer.Truth.TheVariants.{Is}
 use Rattle.calls.specs.Insert.{entered}
 use Rattle.document.specs.Insert.{new_answer}
 use Rattle.calls.proofs.Outcomes.{Inserts}
-use Rattle.calls.specs.declared.plan.Plan.TheVariants.{Enter}
 use Rattle.calls.proofs.RowEdits.{length_entered, member_entered, listed_entered}
 use Rattle.layout.proofs.Owners.{put_owner_same}
 use Rattle.calls.proofs.Grown.{grows}
 use Rattle.calls.proofs.Wanted.{chunk, offset, placed, Good, Into, offset_in, open_at, holds_of, kind_of_law, same_room}
 use Rattle.calls.proofs.Rowings.{own_row, own_listed, own_long, own_word, own_grown, own_kind}
+use Rattle.calls.specs.declared.plan.Plan.TheVariants.{Enter}
+use Rattle.std.specs.Prelude.{Ok}
 
 module _ {x : Mem} {n : ℕ} (i : Into x n) (r l : ℕ) (e : placed x n ≡ Sparse r l) (room : l < (head x).m) (new : member (row_of (row_part (head x) x.rows r)) l (offset x n) ≡ false) where
   abbrev w : Follows x
@@ -78,9 +78,9 @@ module _ {x : Mem} {n : ℕ} (i : Into x n) (r l : ℕ) (e : placed x n ≡ Spar
       (put_owner_same 9 (row_owners_at (head x)) (put_word (head x) x.table (chunk x n) (encoded (Sparse r (suc l)))) r (chunk x n + 1) owner_kept (omega arith)
       ∙ ap (λ (k : ℕ). put_word (head x) x.table (chunk x n) (encoded (Sparse r k))) (sym (add-one l)))
 
-  pub enter_good : Good x n (Enter r l place)
+  pub enter_good : Good x n (Ok (Enter r l place))
   enter_good =
-      subst (Inserts x (pos n) (new_answer (state_of x) (pos n)) (Is true)) entered_is
+      subst (Inserts x (pos n) (new_answer (state_of x) (pos n)) (Ok true)) entered_is
       (grows n (Sparse r (suc l)) (member (row_of row') (suc l)) fuller
       (λ j m. member_entered (head x) row l (offset x n) (own_listed i r l e) (own_long i r l e) room j ∙ ap (λ (p : Place). offsets (head x) x p j || eqb (offset x n) j) (sym e))
       (new_answer (state_of x) (pos n))

@@ -19,8 +19,6 @@ use Rattle.layout.specs.Meaning.{offsets, holds, kind_of, kinds, state_of}
 use Rattle.layout.specs.Follows.{size_of, Follows}
 use Rattle.layout.specs.Lowest.{Moves, place_in}
 use Rattle.layout.specs.declared.place.Place.{Place}
-use Rattle.document.specs.declared.answer.Truth.{Truth}
-use Rattle.document.specs.declared.answer.Truth.TheVariants.{Is, Refused}
 use Rattle.layout_laws.specs.Chunks
 use Rattle.layout_laws.proofs.Members.{holds_at, size_is}
 use Rattle.steps.specs.Effects.{Becomes}
@@ -28,6 +26,9 @@ use Rattle.document.specs.Insert.{chunk_size, grown, grown_map, map_after, is_id
 use Rattle.calls.proofs.Outcomes.{Inserts}
 use Rattle.calls.proofs.Refusals.{is_refused}
 use Rattle.calls.proofs.Slots.{takes_none, becomes_takes}
+use Rattle.document.specs.Results.{Truth}
+use Rattle.std.specs.Prelude.{Err, Ok}
+use Rattle.document.specs.declared.refusal.Refusal.{Refusal}
 
 -- ---- the map with a new member
 
@@ -47,15 +48,15 @@ chunk_size_law {x} w c =
 
 -- ---- what is said of one id
 
-is_same : (b c : Bool) → Is b ≡ Is c → b ≡ c
+is_same : (b c : Bool) → ◌≡◌ {A = Truth} (Ok b) (Ok c) → b ≡ c
 is_same b c e = cc
 
-is_not : (n : ℕ) (b : Bool) → Refused n ≡ Is b → ⊥
+is_not : (n : Refusal) (b : Bool) → Err n ≡ Ok b → ⊥
 is_not n b e = is_refused b n (sym e)
 
 module _ (x : Mem) (w : Follows x) where
   -- a refusal that is wanted
-  pub refuses : (z : ℤ) (wanted : Truth) (k : ℕ) → wanted ≡ Refused k → Inserts x z wanted (Refused k) x
+  pub refuses : (z : ℤ) (wanted : Truth) (k : Refusal) → wanted ≡ Err k → Inserts x z wanted (Err k) x
   refuses z wanted k e = record {
     answer = sym e;
     follows = w;
@@ -68,7 +69,7 @@ module _ (x : Mem) (w : Follows x) where
   }
 
   -- a negative id, or one that is a member
-  pub knows : (z : ℤ) (wanted : Truth) → wanted ≡ Is false → ((n : ℕ) → holds x n ≡ (holds x n || is_id z n)) → ((c : ℕ) → kinds x c ≡ map_after (state_of x) z false c) → Inserts x z wanted (Is false) x
+  pub knows : (z : ℤ) (wanted : Truth) → wanted ≡ Ok false → ((n : ℕ) → holds x n ≡ (holds x n || is_id z n)) → ((c : ℕ) → kinds x c ≡ map_after (state_of x) z false c) → Inserts x z wanted (Ok false) x
   knows z wanted e m k = record {
     answer = sym e;
     follows = w;
@@ -87,14 +88,14 @@ or_none false = refl
 or_some : (b : Bool) → b ≡ true → (c : Bool) → b ≡ (b || c)
 or_some b e c = e ∙ ap (λ (a : Bool). a || c) (sym e)
 
-pub known_member : {x : Mem} → Follows x → (n : ℕ) (wanted : Truth) → holds x n ≡ true → wanted ≡ Is false → Inserts x (pos n) wanted (Is false) x
+pub known_member : {x : Mem} → Follows x → (n : ℕ) (wanted : Truth) → holds x n ≡ true → wanted ≡ Ok false → Inserts x (pos n) wanted (Ok false) x
 known_member {x} w n wanted h e = knows x w (pos n) wanted e (λ i. go i (eqb i n) refl) (λ c. refl)
   where
     go : (i : ℕ) (b : Bool) → eqb i n ≡ b → holds x i ≡ (holds x i || b)
     go i true q = or_some (holds x i) (ap (holds x) (eqb-true i n q) ∙ h) true
     go i false q = or_none (holds x i)
 
-pub known_negative : {x : Mem} → Follows x → (n : ℕ) (wanted : Truth) → wanted ≡ Is false → Inserts x (negsuc n) wanted (Is false) x
+pub known_negative : {x : Mem} → Follows x → (n : ℕ) (wanted : Truth) → wanted ≡ Ok false → Inserts x (negsuc n) wanted (Ok false) x
 known_negative {x} w n wanted e = knows x w (negsuc n) wanted e (λ i. or_none (holds x i)) (λ c. refl)
 
 -- ---- a new member
@@ -124,8 +125,8 @@ module _ {x y : Mem} (n : ℕ) (p : Place) (os : Ids) (b : Becomes x y (n / top 
           or_none (holds x i)
           ∙ ap (λ (a : Bool). holds x i || a) (sym (ne_eqb i n (λ e. eqb-false (i / top (head x)) (n / top (head x)) q (ap (λ (j : ℕ). j / top (head x)) e))))
 
-  pub grows : (wanted : Truth) → wanted ≡ Is true → kind_of p ≡ grown (kinds x (n / top (head x))) (chunk_size (state_of x) (n / top (head x))) (head x).m
-      → Moves x (place_in x (n / top (head x))) p → Inserts x (pos n) wanted (Is true) y
+  pub grows : (wanted : Truth) → wanted ≡ Ok true → kind_of p ≡ grown (kinds x (n / top (head x))) (chunk_size (state_of x) (n / top (head x))) (head x).m
+      → Moves x (place_in x (n / top (head x))) p → Inserts x (pos n) wanted (Ok true) y
   unfolding grown_map
   grows wanted e g m = record {
     answer = sym e;

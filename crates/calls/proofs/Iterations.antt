@@ -13,9 +13,8 @@ use Rattle.sums.specs.Members.{members_in, nth, nth_from, fill}
 use Rattle.sums.proofs.Counts.{count_zero, count_mono}
 use Rattle.sums.proofs.Ranks.{count_member}
 use Rattle.sums.proofs.Members.{members_nth, nth_has, nth_from_split, nth_from_length, nth_from_at, fill_length, fill_full, fill_then, fill_at}
-use Rattle.document.specs.Refusals.{not_laid_out}
+use Rattle.document.specs.Refusals.{number, not_laid_out}
 use Rattle.document.specs.Iteration.{blank, left_from, first_of, listing, refused_listing}
-use Rattle.document.specs.declared.answer.Truth.TheVariants as truth
 use Rattle.layout.specs.Mem.{Mem}
 use Rattle.layout.specs.Meaning.{holds}
 use Rattle.layout.specs.Follows.{Follows}
@@ -24,6 +23,7 @@ use Rattle.calls.specs.Iteration.{to, filled_by, fill_from, last_id, ended, ende
 use Rattle.calls.proofs.RangeEntries.{entries_fit}
 use Rattle.calls.proofs.Ranges.{any_in_range_is}
 use Rattle.calls.proofs.IterationEntries.{fill_from_law}
+use Rattle.std.specs.Prelude.{Ok}
 
 -- ---- the plain set's members from a start on
 
@@ -120,7 +120,7 @@ module _ {x : Mem} (w : Follows x) (z : ℤ) where
       ∙ listed_all (omega arith)
 
   -- the mark, by whether there are more than 64
-  mark : (b : Bool) → ltb (f + 64) (total P) ≡ b → 64 ≤ left → ended_by (fill blank 0 (nth_from P f 64)) 64 z (truth.Is b) ≡ listing P z
+  mark : (b : Bool) → ltb (f + 64) (total P) ≡ b → 64 ≤ left → ended_by (fill blank 0 (nth_from P f 64)) 64 z (Ok b) ≡ listing P z
   mark true t l =
       let m = ltb-true (f + 64) (total P) t in
       ap (first_of P z 64 false) (ap suc_ℤ (last_is P f) ∙ ap pos (sym (add-one (nth P (f + 63))))) ∙ listed_first (omega arith)
@@ -135,7 +135,7 @@ module _ {x : Mem} (w : Follows x) (z : ℤ) where
       ∙ ap (ended_by (fill blank 0 (nth_from P f 64)) 64 z)
       (ap (λ (i : ℤ). any_by x (suc_ℤ i) (pos (2 ^ 63 - 1))) (last_is P f)
       ∙ any_in_range_is w (pos (suc (nth P (f + 63)))) (pos (2 ^ 63 - 1))
-      ∙ ap truth.Is (more_left P f (omega arith)))
+      ∙ ap Ok (more_left P f (omega arith)))
       ∙ mark (ltb (f + 64) (total P)) refl l
 
   record_is : record_by x z (filled_by blank 0 (nth_from P f left)) ≡ listing P z
@@ -148,6 +148,6 @@ module _ {x : Mem} (w : Follows x) (z : ℤ) where
   pub iterate_is : iter_by x z ≡ listing (holds x) z
   unfolding iter_by
   iterate_is =
-      ap (λ (b : Bool). cond b (record_by x z (fill_from x (from_zero z))) (refused_listing not_laid_out)) (entries_fit w)
+      ap (λ (b : Bool). cond b (record_by x z (fill_from x (from_zero z))) (refused_listing (number not_laid_out))) (entries_fit w)
       ∙ ap (record_by x z) filled_is
       ∙ record_is

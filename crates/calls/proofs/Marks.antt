@@ -28,16 +28,16 @@ use Rattle.layout.specs.Writes.{put_word, put_page_owner, put_page}
 use Rattle.steps.specs.Steps.{paged}
 use Rattle.steps.specs.Effects.{PageFor, Becomes}
 use Rattle.steps.proofs.Paged.{paged_becomes}
-use Rattle.document.specs.declared.answer.Truth.{Truth}
-use Rattle.document.specs.declared.answer.Truth.TheVariants.{Is}
 use Rattle.calls.specs.Insert.{mark_plan, bit_put, acted}
 use Rattle.document.specs.Insert.{chunk_size, grown, new_answer}
 use Rattle.calls.proofs.Outcomes.{Inserts}
-use Rattle.calls.specs.declared.plan.Plan.TheVariants.{Known, Mark}
 use Rattle.calls.proofs.PageEdits.{set_with}
 use Rattle.calls.proofs.Plans.{dense_word, put_same}
 use Rattle.calls.proofs.Grown.{grows}
 use Rattle.calls.proofs.Wanted.{chunk, offset, placed, Says, Good, Into, offset_in, open_at, holds_of, kind_of_law, known_good, same_room}
+use Rattle.calls.specs.declared.plan.Plan.TheVariants.{Known, Mark}
+use Rattle.document.specs.Results.{Truth}
+use Rattle.std.specs.Prelude.{Ok}
 
 module _ {x : Mem} {n : ℕ} (i : Into x n) (q : ℕ) (e : placed x n ≡ Dense q) where
   abbrev w : Follows x
@@ -68,19 +68,19 @@ module _ {x : Mem} {n : ℕ} (i : Into x n) (q : ℕ) (e : placed x n ≡ Dense 
       paged_becomes x (chunk x n) (Dense q) q (with_bit page (offset x n))
       (record { set = open_at i; old_is = sym e; there = owns.there; long = length_with page (offset x n) ∙ page_long; came = PageFor.own_page refl })
 
-  pub mark_good : (wanted : Truth) → wanted ≡ Is true → Says x (pos n) wanted (acted x (chunk x n) (offset x n) (Mark q))
+  pub mark_good : (wanted : Truth) → wanted ≡ Ok true → Says x (pos n) wanted (acted x (chunk x n) (offset x n) (Ok (Mark q)))
   mark_good wanted g =
       let t = wide_top (head x) w.sizes in
       let l = page_long in
       let o = offset_in i in
-      subst (Inserts x (pos n) wanted (Is true)) marked_is
+      subst (Inserts x (pos n) wanted (Ok true)) marked_is
       (grows n (Dense q) (is_set (with_bit page (offset x n))) became
       (λ j m. set_with page (offset x n) j (omega arith) ∙ ap (λ (p : Place). offsets (head x) x p j || eqb (offset x n) j) (sym e))
       wanted g
       (sym (ap (λ (k : Kind). grown k (chunk_size (state_of x) (chunk x n)) (head x).m) (kind_of_law i (Dense q) e)))
       (subst (λ (p : Place). Moves x p (Dense q)) (sym e) refl))
 
-  dense_if : (b : Bool) → is_set page (offset x n) ≡ b → Good x n (cond b Known (Mark q))
+  dense_if : (b : Bool) → is_set page (offset x n) ≡ b → Good x n (cond b (Ok Known) (Ok (Mark q)))
   dense_if true s = known_good i (holds_of i (Dense q) e ∙ s)
   dense_if false s = mark_good (new_answer (state_of x) (pos n)) (same_room i dense (kind_of_law i (Dense q) e) refl (holds_of i (Dense q) e ∙ s))
 

@@ -208,7 +208,7 @@ rows_enough {x} w c =
     let a = sparses_fit w in
     let b = sparses_le (head x) (dense_map (state_of x) c) (kinds x)
     (sides (λ (i : ℕ). is_sparse (dense_map (state_of x) c i) ≡ true → is_sparse (kinds x i) ≡ true) c
-    (λ i l e. absurd (let q = ap is_sparse (dense_low x c i l) in let z : ◌≡◌ {A = ℕ} 0 1 = cc in omega arith))
+    (λ i l e. absurd (let q = ap is_sparse (dense_low x c i l) in cc))
     (λ i l e. ap is_sparse (sym (dense_high x c i l)) ∙ e)) in
     omega arith
 

@@ -2,7 +2,6 @@
 use mathlib.Core.Path.{◌≡◌, refl, sym, ap, ◌∙◌}
 use mathlib.Core.Bool.{Bool, true, false, cond, ◌&&◌}
 use Prim.Native.Nat.{ℕ, ◌+◌, ◌*◌, ◌≤◌, ◌<◌}
-use native.Mathlib.Omega.{arith}
 use lib.ListN.{length}
 use lib.Dec.{leb, ltb}
 use borrow.Author.Tests.{leb-true, ltb-true}
@@ -14,25 +13,27 @@ use Rattle.layout.specs.Places.{decoded}
 use Rattle.layout.specs.Entries.{place_of}
 use Rattle.layout.specs.Short.{spot_on, spot_of}
 use Rattle.layout.specs.Tests.{Walked}
-use Rattle.layout.specs.declared.find.Spot.TheVariants.{Nowhere, Row, Page, Bad}
 use Rattle.layout.specs.declared.place.Place.{Place}
 use Rattle.layout.specs.declared.place.Place.TheVariants.{Absent, Sparse, Dense}
 use Rattle.layout_laws.proofs.Short.{owned_of, place_inside}
 use Rattle.calls.specs.Reading.{spot_by}
 use Rattle.calls.specs.Insert.{inside_slices}
+use Rattle.document.specs.Refusals.{not_laid_out}
+use Rattle.layout.specs.declared.find.Spot.TheVariants.{Nowhere, Page, Row}
+use Rattle.std.specs.Prelude.{Err, Ok}
 
 -- ---- one law for both
 
-pub spot_by_law : (x : Mem) (w : ℕ) → spot_by x w ≡ cond (inside_slices x (decoded w)) (spot_on (head x) (decoded w)) Bad
+pub spot_by_law : (x : Mem) (w : ℕ) → spot_by x w ≡ cond (inside_slices x (decoded w)) (spot_on (head x) (decoded w)) (Err not_laid_out)
 unfolding spot_of
 spot_by_law x w = refl
 
 -- ---- where the walk finds nothing wrong, every chunk's place is inside
 
-never_bad : (h : Sizes) (p : Place) → spot_on h p ≡ Bad → ⊥
-never_bad h Absent e = let z : ◌≡◌ {A = ℕ} 0 1 = cc in omega arith
-never_bad h (Sparse r l) e = let z : ◌≡◌ {A = ℕ} 0 1 = cc in omega arith
-never_bad h (Dense p) e = let z : ◌≡◌ {A = ℕ} 0 1 = cc in omega arith
+never_bad : (h : Sizes) (p : Place) → spot_on h p ≡ Err not_laid_out → ⊥
+never_bad h Absent e = cc
+never_bad h (Sparse r l) e = cc
+never_bad h (Dense p) e = cc
 
 pub inside_of : {x : Mem} → Walked x (head x) → (c : ℕ) → inside_slices x (place_of (head x) x.table c) ≡ true
 inside_of {x} w c = place_inside x (head x) w.sizes w.room c (place_of (head x) x.table c) (owned_of w c)
@@ -88,8 +89,8 @@ pub record PageAt (x : Mem) (w a n : ℕ) : Type 0 where
   pub long : n ≡ wide (head x)
 
 module _ (x : Mem) (w : ℕ) where
-  row_if : (p : Place) → decoded w ≡ p → (b : Bool) → inside_slices x p ≡ b → (a n l : ℕ) → Row a n l ≡ cond b (spot_on (head x) p) Bad → RowAt x w a n l
-  row_if Absent d true g a n l e = absurd (let z : ◌≡◌ {A = ℕ} 0 1 = cc in omega arith)
+  row_if : (p : Place) → decoded w ≡ p → (b : Bool) → inside_slices x p ≡ b → (a n l : ℕ) → Ok (Row a n l) ≡ cond b (spot_on (head x) p) (Err not_laid_out) → RowAt x w a n l
+  row_if Absent d true g a n l e = absurd cc
   row_if (Sparse r k) d true g a n l e =
       let s : l ≡ k = cc in
       record {
@@ -98,34 +99,34 @@ module _ (x : Mem) (w : ℕ) where
         start = cc;
         long = cc;
       }
-  row_if (Dense p) d true g a n l e = absurd (let z : ◌≡◌ {A = ℕ} 0 1 = cc in omega arith)
-  row_if p d false g a n l e = absurd (let z : ◌≡◌ {A = ℕ} 0 1 = cc in omega arith)
+  row_if (Dense p) d true g a n l e = absurd cc
+  row_if p d false g a n l e = absurd cc
 
-  pub row_at : (a n l : ℕ) → Row a n l ≡ spot_by x w → RowAt x w a n l
+  pub row_at : (a n l : ℕ) → Ok (Row a n l) ≡ spot_by x w → RowAt x w a n l
   row_at a n l e = row_if (decoded w) refl (inside_slices x (decoded w)) refl a n l (e ∙ spot_by_law x w)
 
-  page_if : (p : Place) → decoded w ≡ p → (b : Bool) → inside_slices x p ≡ b → (a n : ℕ) → Page a n ≡ cond b (spot_on (head x) p) Bad → PageAt x w a n
-  page_if Absent d true g a n e = absurd (let z : ◌≡◌ {A = ℕ} 0 1 = cc in omega arith)
-  page_if (Sparse r k) d true g a n e = absurd (let z : ◌≡◌ {A = ℕ} 0 1 = cc in omega arith)
+  page_if : (p : Place) → decoded w ≡ p → (b : Bool) → inside_slices x p ≡ b → (a n : ℕ) → Ok (Page a n) ≡ cond b (spot_on (head x) p) (Err not_laid_out) → PageAt x w a n
+  page_if Absent d true g a n e = absurd cc
+  page_if (Sparse r k) d true g a n e = absurd cc
   page_if (Dense p) d true g a n e = record { page = p; names = record { is = d; good = g }; start = cc; long = cc }
-  page_if p d false g a n e = absurd (let z : ◌≡◌ {A = ℕ} 0 1 = cc in omega arith)
+  page_if p d false g a n e = absurd cc
 
-  pub page_at : (a n : ℕ) → Page a n ≡ spot_by x w → PageAt x w a n
+  pub page_at : (a n : ℕ) → Ok (Page a n) ≡ spot_by x w → PageAt x w a n
   page_at a n e = page_if (decoded w) refl (inside_slices x (decoded w)) refl a n (e ∙ spot_by_law x w)
 
-  none_if : (p : Place) → decoded w ≡ p → (b : Bool) → inside_slices x p ≡ b → Nowhere ≡ cond b (spot_on (head x) p) Bad → Names x w Absent
+  none_if : (p : Place) → decoded w ≡ p → (b : Bool) → inside_slices x p ≡ b → Ok Nowhere ≡ cond b (spot_on (head x) p) (Err not_laid_out) → Names x w Absent
   none_if Absent d b g e = record { is = d; good = refl }
-  none_if (Sparse r k) d true g e = absurd (let z : ◌≡◌ {A = ℕ} 0 1 = cc in omega arith)
-  none_if (Sparse r k) d false g e = absurd (let z : ◌≡◌ {A = ℕ} 0 1 = cc in omega arith)
-  none_if (Dense p) d true g e = absurd (let z : ◌≡◌ {A = ℕ} 0 1 = cc in omega arith)
-  none_if (Dense p) d false g e = absurd (let z : ◌≡◌ {A = ℕ} 0 1 = cc in omega arith)
+  none_if (Sparse r k) d true g e = absurd cc
+  none_if (Sparse r k) d false g e = absurd cc
+  none_if (Dense p) d true g e = absurd cc
+  none_if (Dense p) d false g e = absurd cc
 
-  pub none_at : Nowhere ≡ spot_by x w → Names x w Absent
+  pub none_at : Ok Nowhere ≡ spot_by x w → Names x w Absent
   none_at e = none_if (decoded w) refl (inside_slices x (decoded w)) refl (e ∙ spot_by_law x w)
 
-  bad_if : (p : Place) (b : Bool) → Bad ≡ cond b (spot_on (head x) p) Bad → b ≡ false
+  bad_if : (p : Place) (b : Bool) → Err not_laid_out ≡ cond b (spot_on (head x) p) (Err not_laid_out) → b ≡ false
   bad_if p true e = absurd (never_bad (head x) p (sym e))
   bad_if p false e = refl
 
-  pub bad_at : Bad ≡ spot_by x w → inside_slices x (decoded w) ≡ false
+  pub bad_at : Err not_laid_out ≡ spot_by x w → inside_slices x (decoded w) ≡ false
   bad_at e = bad_if (decoded w) (inside_slices x (decoded w)) (e ∙ spot_by_law x w)

@@ -21,17 +21,18 @@ use Rattle.layout.proofs.Tests.{head_of}
 use Rattle.document.specs.declared.sizes.Sizes.{Sizes}
 use Rattle.layout.specs.declared.place.Place.{Place}
 use Rattle.layout.specs.declared.place.Place.TheVariants.{Absent, Sparse, Dense}
-use Rattle.document.specs.declared.answer.Truth.TheVariants.{Refused}
 use Rattle.layout_laws.proofs.Entries.{Ordered, word_direct, word_of_direct}
 use Rattle.layout_laws.proofs.Short.{over_word_is, word_in_is}
 use Rattle.layout_laws.proofs.Walked.{laid_walked}
 use Rattle.layout.specs.Writes.{over_put, put_word}
 use Rattle.calls.specs.Reading.{shift_ok}
 use Rattle.calls.specs.Insert.{free_row, free_page, start_chunk, turn_dense, into_place, into_dense, by_word, insert_plan, prepared_plan, Told, told, if_open}
-use Rattle.calls.specs.declared.plan.Plan.{Plan}
-use Rattle.calls.specs.declared.plan.Plan.TheVariants.{Refuse, Begin, Turn}
 use Rattle.calls.proofs.Readings.{shift_ok_law}
 use Rattle.calls.proofs.Places.{inside_of}
+use Rattle.calls.specs.Planned.{InsertPlan}
+use Rattle.calls.specs.declared.plan.Plan.TheVariants.{Begin, Turn}
+use Rattle.document.specs.Refusals.{is_ranked, not_laid_out, overflow_full, pages_full, rows_full}
+use Rattle.std.specs.Prelude.{Err, Ok}
 
 -- ---- a word, by what it says
 
@@ -39,25 +40,25 @@ pub sparse_word : (w r l : ℕ) → decoded w ≡ Sparse r l → w ≡ 1 + (2048
 sparse_word w r l e = go (eqb w 0) refl (ltb w 268435456) e
   where
     go : (a : Bool) → eqb w 0 ≡ a → (b : Bool) → cond a Absent (cond b (Sparse ((w - 1) / 2048) ((w - 1) % 2048)) (Dense (w - 268435456))) ≡ Sparse r l → w ≡ 1 + (2048 * r + l)
-    go true p b q = absurd (let z : ◌≡◌ {A = ℕ} 0 1 = cc in omega arith)
+    go true p b q = absurd cc
     go false p true q = let n = eqb-false w 0 p in let i : (w - 1) / 2048 ≡ r = cc in let j : (w - 1) % 2048 ≡ l = cc in omega arith
-    go false p false q = absurd (let z : ◌≡◌ {A = ℕ} 0 1 = cc in omega arith)
+    go false p false q = absurd cc
 
 -- its row, of all that a word can name
 pub sparse_below : (w r l : ℕ) → decoded w ≡ Sparse r l → r < 131072
 sparse_below w r l e = go (eqb w 0) refl (ltb w 268435456) refl e
   where
     go : (a : Bool) → eqb w 0 ≡ a → (b : Bool) → ltb w 268435456 ≡ b → cond a Absent (cond b (Sparse ((w - 1) / 2048) ((w - 1) % 2048)) (Dense (w - 268435456))) ≡ Sparse r l → r < 131072
-    go true p b s q = absurd (let z : ◌≡◌ {A = ℕ} 0 1 = cc in omega arith)
+    go true p b s q = absurd cc
     go false p true s q = let n = ltb-true w 268435456 s in let i : (w - 1) / 2048 ≡ r = cc in omega arith
-    go false p false s q = absurd (let z : ◌≡◌ {A = ℕ} 0 1 = cc in omega arith)
+    go false p false s q = absurd cc
 
 pub dense_word : (w p : ℕ) → decoded w ≡ Dense p → w ≡ 268435456 + p
 dense_word w p e = go (eqb w 0) (ltb w 268435456) refl e
   where
     go : (a b : Bool) → ltb w 268435456 ≡ b → cond a Absent (cond b (Sparse ((w - 1) / 2048) ((w - 1) % 2048)) (Dense (w - 268435456))) ≡ Dense p → w ≡ 268435456 + p
-    go true b s q = absurd (let z : ◌≡◌ {A = ℕ} 0 1 = cc in omega arith)
-    go false true s q = absurd (let z : ◌≡◌ {A = ℕ} 0 1 = cc in omega arith)
+    go true b s q = absurd cc
+    go false true s q = absurd cc
     go false false s q = let n = ltb-false w 268435456 s in let i : w - 268435456 ≡ p = cc in omega arith
 
 -- ---- a word that is there, put again
@@ -91,14 +92,14 @@ module _ {x : Mem} (w : Follows x) where
   tested = ap₂ ◌&&◌ (shift_ok_law x w.sizes) (le-leb (mode_at x.table) 1 w.mode)
 
   -- 3 never, 4 of a ranked set
-  pub if_open_law : (t : Told) → if_open x t ≡ cond (ranked x) (told (Refused 4) x) t
-  if_open_law t = ap (λ (b : Bool). cond b (cond (ranked x) (told (Refused 4) x) t) (told (Refused 3) x)) tested
+  pub if_open_law : (t : Told) → if_open x t ≡ cond (ranked x) (told (Err is_ranked) x) t
+  if_open_law t = ap (λ (b : Bool). cond b (cond (ranked x) (told (Err is_ranked) x) t) (told (Err not_laid_out) x)) tested
 
   -- the chunk's own place
-  by_place : (plan : Place → Plan) (c : ℕ) → by_word x plan (word_in x.table c) ≡ plan (place_of (head x) x.table c)
+  by_place : (plan : Place → InsertPlan) (c : ℕ) → by_word x plan (word_in x.table c) ≡ plan (place_of (head x) x.table c)
   by_place plan c =
       ap (by_word x plan) (word_in_is x (laid_walked w) c)
-      ∙ ap (λ (b : Bool). cond b (plan (place_of (head x) x.table c)) (Refuse 3)) (inside_of (laid_walked w) c)
+      ∙ ap (λ (b : Bool). cond b (plan (place_of (head x) x.table c)) (Err not_laid_out)) (inside_of (laid_walked w) c)
 
   pub plan_at : (c o : ℕ) → insert_plan x c o ≡ into_place x c o (place_of (head x) x.table c)
   unfolding insert_plan
@@ -110,15 +111,15 @@ module _ {x : Mem} (w : Follows x) where
 
   -- the header is as the layout says
   pub start_chunk_law : (c : ℕ)
-      → start_chunk x c ≡ cond (leb (head x).d c && leb (head x).v (over_count x.table)) (Refuse 6) (cond (ltb (free_row x) (head x).r) (Begin (free_row x)) (Refuse 7))
+      → start_chunk x c ≡ cond (leb (head x).d c && leb (head x).v (over_count x.table)) (Err overflow_full) (cond (ltb (free_row x) (head x).r) (Ok (Begin (free_row x))) (Err rows_full))
   start_chunk_law c =
       ap
       (λ (b : Bool).
       cond b
-      (cond (leb (head x).d c && leb (head x).v (over_count x.table)) (Refuse 6) (cond (ltb (free_row x) (head x).r) (Begin (free_row x)) (Refuse 7)))
-      (Refuse 3))
+      (cond (leb (head x).d c && leb (head x).v (over_count x.table)) (Err overflow_full) (cond (ltb (free_row x) (head x).r) (Ok (Begin (free_row x))) (Err rows_full)))
+      (Err not_laid_out))
       head_ok
 
-  pub turn_dense_law : (r l : ℕ) → r < (head x).r → turn_dense x r l ≡ cond (ltb (free_page x) (head x).p) (Turn r l (free_page x)) (Refuse 8)
+  pub turn_dense_law : (r l : ℕ) → r < (head x).r → turn_dense x r l ≡ cond (ltb (free_page x) (head x).p) (Ok (Turn r l (free_page x))) (Err pages_full)
   turn_dense_law r l m =
-      ap (λ (b : Bool). cond b (cond (ltb (free_page x) (head x).p) (Turn r l (free_page x)) (Refuse 8)) (Refuse 3)) (ap₂ ◌&&◌ head_ok (lt-ltb r (head x).r m))
+      ap (λ (b : Bool). cond b (cond (ltb (free_page x) (head x).p) (Ok (Turn r l (free_page x))) (Err pages_full)) (Err not_laid_out)) (ap₂ ◌&&◌ head_ok (lt-ltb r (head x).r m))

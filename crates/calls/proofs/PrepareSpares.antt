@@ -11,7 +11,6 @@ use Rattle.dense.proofs.Bits.{length_row}
 use Rattle.document.specs.Sizes.{top}
 use Rattle.document.specs.Refusals.{not_laid_out, is_ranked, overflow_full, pages_full}
 use Rattle.document.specs.declared.sizes.Sizes.{Sizes}
-use Rattle.document.specs.declared.answer.Outcome.TheVariants.{Done, Refused}
 use Rattle.layout.specs.Mem.{Mem}
 use Rattle.layout.specs.Sizes.{head, mode_at}
 use Rattle.layout.specs.Places.{row_part, page_part, has_page}
@@ -32,6 +31,7 @@ use Rattle.layout.specs.Meaning.{ranked}
 use Rattle.steps.proofs.Slots as slots
 use Rattle.calls.proofs.Reached.{Reached, entry_free, kind_at, place_free}
 use Rattle.calls.proofs.PreparedDense.{room_far, room_over, room_pages, room_reached}
+use Rattle.std.specs.Prelude.{Err, Ok}
 
 -- ---- one chunk
 
@@ -81,10 +81,10 @@ module _ (x : Mem) where
   to_spare : (c : ℕ) → Walked x (head x) → ranked x ≡ false → Spare (head x) x (prepare_to (head x) x c).after
   to_spare c w m =
       let h = head x in
-      spare_if (ltb h.v (over_needed h x.table c)) (did (Refused overflow_full) x)
-      (cond (ltb h.p (pages_needed h x.table c)) (did (Refused pages_full) x) (did Done (densed_to h x (c + 1))))
+      spare_if (ltb h.v (over_needed h x.table c)) (did (Err overflow_full) x)
+      (cond (ltb h.p (pages_needed h x.table c)) (did (Err pages_full) x) (did (Ok tt) (densed_to h x (c + 1))))
       (λ a. spare_same)
-      (λ a. spare_if (ltb h.p (pages_needed h x.table c)) (did (Refused pages_full) x) (did Done (densed_to h x (c + 1)))
+      (λ a. spare_if (ltb h.p (pages_needed h x.table c)) (did (Err pages_full) x) (did (Ok tt) (densed_to h x (c + 1)))
       (λ b. spare_same)
       (λ b. densed_spare x c
       (record { walks = w; mode = m; over = ltb-false h.v (over_needed h x.table c) a; pages = ltb-false h.p (pages_needed h x.table c) b })
@@ -97,6 +97,6 @@ module _ (x : Mem) where
   pub prepare_by_spare : (z : ℤ) → Spare (head x) x (prepare_by x z).after
   unfolding prepare_by
   prepare_by_spare z =
-      spare_if (walked x) (cond (eqb (mode_at x.table) 1) (did (Refused is_ranked) x) (prepare_id x z)) (did (Refused not_laid_out) x)
-      (λ w. spare_if (eqb (mode_at x.table) 1) (did (Refused is_ranked) x) (prepare_id x z) (λ m. spare_same) (λ m. id_spare ((walked_of x).sound w) m z))
+      spare_if (walked x) (cond (eqb (mode_at x.table) 1) (did (Err is_ranked) x) (prepare_id x z)) (did (Err not_laid_out) x)
+      (λ w. spare_if (eqb (mode_at x.table) 1) (did (Err is_ranked) x) (prepare_id x z) (λ m. spare_same) (λ m. id_spare ((walked_of x).sound w) m z))
       (λ w. spare_same)

@@ -8,19 +8,21 @@ use lib.Dec.{ltb}
 use borrow.Author.Tests.{ltb-false, lt-ltb}
 use Rattle.layout.specs.Mem.{Mem}
 use Rattle.document.specs.Sizes.{top, last_chunk}
+use Rattle.document.specs.Results.{Outcome}
 use Rattle.document.specs.Refusals.{not_laid_out, is_ranked, overflow_full, pages_full}
 use Rattle.layout.specs.Sizes.{head}
 use Rattle.layout.specs.Tests.{Walked, walked}
 use Rattle.document.specs.State.{dense}
 use Rattle.layout.specs.Meaning.{kinds, ranked, state_of}
 use Rattle.layout.specs.SetUp.{Did, did}
-use Rattle.document.specs.declared.answer.Outcome.TheVariants.{Done, Refused}
 use Rattle.layout.proofs.Tests.{walked_of}
 use Rattle.document.specs.Prepare.{dense_map}
 use Rattle.document.specs.Room.{overflows, denses}
 use Rattle.calls.specs.Prepare.{HasRoom, densed_to, over_needed, pages_needed, prepare_by}
 use Rattle.calls.proofs.Needed.{few_chunks, over_needed_law, pages_needed_law}
 use Rattle.calls.proofs.Reached.{Reached, reached}
+use Rattle.std.specs.Prelude.{Err, Ok}
+use Rattle.document.specs.declared.refusal.Refusal.{Refusal}
 
 -- ---- an open set that passed the walk and has room
 
@@ -48,19 +50,19 @@ pub record Accepted (x : Mem) (c : ℕ) (d : Did) : Type 0 where
   pub room : HasRoom x c
   pub after : d.after ≡ densed_to (head x) x (c + 1)
 
-refused_done : (k : ℕ) → Refused k ≡ Done → ⊥
-refused_done k e = let z : ◌≡◌ {A = ℕ} 0 1 = cc in omega arith
+refused_done : (k : Refusal) → ◌≡◌ {A = Outcome} (Err k) (Ok tt) → ⊥
+refused_done k e = cc
 
 -- by the four tests
 abbrev by : Mem → ℕ → Bool → Bool → Bool → Bool → Did
 by x c a b u v =
     cond a
-    (cond b (did (Refused is_ranked) x)
-    (cond u (did (Refused overflow_full) x) (cond v (did (Refused pages_full) x) (did Done (densed_to (head x) x (c + 1))))))
-    (did (Refused not_laid_out) x)
+    (cond b (did (Err is_ranked) x)
+    (cond u (did (Err overflow_full) x) (cond v (did (Err pages_full) x) (did (Ok tt) (densed_to (head x) x (c + 1))))))
+    (did (Err not_laid_out) x)
 
 accepted_by : (x : Mem) (c : ℕ) (a b u v : Bool) → walked x ≡ a → ranked x ≡ b → ltb (head x).v (over_needed (head x) x.table c) ≡ u
-    → ltb (head x).p (pages_needed (head x) x.table c) ≡ v → (by x c a b u v).answer ≡ Done → Accepted x c (by x c a b u v)
+    → ltb (head x).p (pages_needed (head x) x.table c) ≡ v → (by x c a b u v).answer ≡ Ok tt → Accepted x c (by x c a b u v)
 accepted_by x c false b u v o p q r e = absurd (refused_done not_laid_out e)
 accepted_by x c true true u v o p q r e = absurd (refused_done is_ranked e)
 accepted_by x c true false true v o p q r e = absurd (refused_done overflow_full e)
@@ -77,13 +79,13 @@ accepted_by x c true false false false o p q r e =
       after = refl;
     }
 
-pub accepted : (x : Mem) (i : ℕ) → (prepare_by x (pos i)).answer ≡ Done → Accepted x (last x i) (prepare_by x (pos i))
+pub accepted : (x : Mem) (i : ℕ) → (prepare_by x (pos i)).answer ≡ Ok tt → Accepted x (last x i) (prepare_by x (pos i))
 unfolding prepare_by
 accepted x i =
     accepted_by x (last x i) (walked x) (ranked x) (ltb (head x).v (over_needed (head x) x.table (last x i)))
     (ltb (head x).p (pages_needed (head x) x.table (last x i))) refl refl refl refl
 
-module _ (x : Mem) (i : ℕ) (done : (prepare_by x (pos i)).answer ≡ Done) where
+module _ (x : Mem) (i : ℕ) (done : (prepare_by x (pos i)).answer ≡ (Ok tt)) where
   at_last : Reached x (last x i + 1) (prepare_by x (pos i)).after
   at_last = let a = accepted x i done in subst (Reached x (last x i + 1)) (sym a.after) (room_reached a.room (last x i + 1) (omega arith))
 

@@ -20,8 +20,6 @@ use Rattle.layout.specs.SetUp.{Did, did}
 use Rattle.document.specs.declared.sizes.Sizes.{Sizes}
 use Rattle.layout_laws.proofs.Walked.{laid_walked, follows_walked}
 use Rattle.numbers.proofs.Splits as splits
-use Rattle.document.specs.declared.answer.Truth.TheVariants as truth
-use Rattle.document.specs.declared.answer.Outcome.TheVariants.{Done, Refused}
 use Rattle.calls.specs.Prepare.{densed, densed_to, chunks_to, over_needed, pages_needed, prepare_id, prepare_by}
 use Rattle.document.specs.Insert.{done}
 use Rattle.document.specs.Prepare.{dense_map, prepare_answer}
@@ -31,6 +29,10 @@ use Rattle.calls.proofs.Slots.{Turn, rising_none}
 use Rattle.calls.proofs.Verdicts.{verdict_six, verdict_eight, verdict_room}
 use Rattle.calls.proofs.Needed.{over_needed_law, pages_needed_law, rows_enough}
 use Rattle.calls.proofs.Sofar.{Sofar, sofar_none, sofar_more, sofar_takes}
+use Rattle.document.specs.Results.{Outcome}
+use Rattle.document.specs.Refusals.{is_ranked, not_laid_out, overflow_full, pages_full}
+use Rattle.std.specs.Prelude.{Err, Ok}
+use Rattle.document.specs.declared.refusal.Refusal.{Refusal}
 
 -- ---- all chunks from 0 to c
 
@@ -67,10 +69,10 @@ module _ {x : Mem} (w : Follows x) (mode : ranked x ≡ false) (c : ℕ) (far : 
 abbrev Says : Mem → ℤ → Did → Type 0
 Says x z d = Prepares x z d.answer d.after
 
-not_done : (n : ℕ) → Refused n ≡ Done → ⊥
-not_done n e = let z : ◌≡◌ {A = ℕ} 0 1 = cc in omega arith
+not_done : (n : Refusal) → ◌≡◌ {A = Outcome} (Err n) (Ok tt) → ⊥
+not_done n e = cc
 
-refuses_prepare : {x : Mem} → Follows x → (z : ℤ) (k : ℕ) → prepare_answer (state_of x) z ≡ Refused k → Says x z (did (Refused k) x)
+refuses_prepare : {x : Mem} → Follows x → (z : ℤ) (k : Refusal) → prepare_answer (state_of x) z ≡ Err k → Says x z (did (Err k) x)
 refuses_prepare {x} w z k e = record {
   answer = sym e;
   follows = w;
@@ -91,7 +93,7 @@ less_next i c = go (leb i c) refl
     go false e = le-ltb i (c + 1) (let l = leb-false i c e in omega arith)
 
 done_prepare : {x : Mem} (n : ℕ) (y : Mem) → Sofar x (n / top (head x) + 1) y → TakesRising x y (n / top (head x) + 1)
-    → prepare_answer (state_of x) (pos n) ≡ Done → Says x (pos n) (did Done y)
+    → prepare_answer (state_of x) (pos n) ≡ Ok tt → Says x (pos n) (did (Ok tt) y)
 unfolding dense_map
 done_prepare {x} n y s t e = record {
   answer = sym e;
@@ -105,16 +107,16 @@ done_prepare {x} n y s t e = record {
 }
 
 module _ {x : Mem} (w : Follows x) where
-  prepare_ranked : (z : ℤ) → ranked x ≡ true → prepare_answer (state_of x) z ≡ Refused 4
+  prepare_ranked : (z : ℤ) → ranked x ≡ true → prepare_answer (state_of x) z ≡ Err is_ranked
   unfolding prepare_answer
-  prepare_ranked (pos n) e = ap (λ (t : Bool). cond t (Refused 4) (done (verdict (head x) (dense_map (state_of x) (n / top (head x))) (truth.Is true)))) e
-  prepare_ranked (negsuc n) e = ap (λ (t : Bool). cond t (Refused 4) Done) e
+  prepare_ranked (pos n) e = ap (λ (t : Bool). cond t (Err is_ranked) (done (verdict (head x) (dense_map (state_of x) (n / top (head x))) (Ok true)))) e
+  prepare_ranked (negsuc n) e = ap (λ (t : Bool). cond t (Err is_ranked) (Ok tt)) e
 
   -- a negative maximum does nothing
-  nothing_done : (n : ℕ) → ranked x ≡ false → Says x (negsuc n) (did Done x)
+  nothing_done : (n : ℕ) → ranked x ≡ false → Says x (negsuc n) (did (Ok tt) x)
   unfolding prepare_answer
   nothing_done n e = record {
-    answer = sym (ap (λ (t : Bool). cond t (Refused 4) Done) e);
+    answer = sym (ap (λ (t : Bool). cond t (Err is_ranked) (Ok tt)) e);
     follows = w;
     sizes = refl;
     mode = refl;
@@ -134,30 +136,30 @@ module _ {x : Mem} (w : Follows x) where
     far : c < last_chunk (head x)
     far = let s = w.sizes.s_high in splits.chunk_below (head x).s n (omega arith) small
 
-    wanted : prepare_answer (state_of x) (pos n) ≡ done (verdict (head x) map (truth.Is true))
+    wanted : prepare_answer (state_of x) (pos n) ≡ done (verdict (head x) map (Ok true))
     unfolding prepare_answer
-    wanted = ap (λ (t : Bool). cond t (Refused 4) (done (verdict (head x) map (truth.Is true)))) mode
+    wanted = ap (λ (t : Bool). cond t (Err is_ranked) (done (verdict (head x) map (Ok true)))) mode
 
     eight : overflows (head x) map ≤ (head x).v → (b : Bool) → ltb (head x).p (pages_needed (head x) x.table c) ≡ b
-        → Says x (pos n) (cond b (did (Refused 8) x) (did Done (densed_to (head x) x (c + 1))))
+        → Says x (pos n) (cond b (did (Err pages_full) x) (did (Ok tt) (densed_to (head x) x (c + 1))))
     eight ov true q =
         let l = ltb-true (head x).p (pages_needed (head x) x.table c) q in
         let i = pages_needed_law (laid_walked w) c far in
-        refuses_prepare w (pos n) 8 (wanted ∙ ap done (verdict_eight (head x) map (truth.Is true) ov (rows_enough w c) (omega arith)))
+        refuses_prepare w (pos n) pages_full (wanted ∙ ap done (verdict_eight (head x) map (Ok true) ov (rows_enough w c) (omega arith)))
     eight ov false q =
         let l = ltb-false (head x).p (pages_needed (head x) x.table c) q in
         let i = pages_needed_law (laid_walked w) c far in
         let p : denses (head x) map ≤ (head x).p = omega arith in
         done_prepare n (densed_to (head x) x (c + 1)) (sofar w mode c far ov p (c + 1) (omega arith)) (sofar_rising w mode c far ov p)
-        (wanted ∙ ap done (verdict_room (head x) map (truth.Is true) ov (rows_enough w c) p))
+        (wanted ∙ ap done (verdict_room (head x) map (Ok true) ov (rows_enough w c) p))
 
     six : (b : Bool) → ltb (head x).v (over_needed (head x) x.table c) ≡ b
         → Says x (pos n)
-        (cond b (did (Refused 6) x) (cond (ltb (head x).p (pages_needed (head x) x.table c)) (did (Refused 8) x) (did Done (densed_to (head x) x (c + 1)))))
+        (cond b (did (Err overflow_full) x) (cond (ltb (head x).p (pages_needed (head x) x.table c)) (did (Err pages_full) x) (did (Ok tt) (densed_to (head x) x (c + 1)))))
     six true q =
         let l = ltb-true (head x).v (over_needed (head x) x.table c) q in
         let i = over_needed_law (laid_walked w) c far in
-        refuses_prepare w (pos n) 6 (wanted ∙ ap done (verdict_six (head x) map (truth.Is true) (omega arith)))
+        refuses_prepare w (pos n) overflow_full (wanted ∙ ap done (verdict_six (head x) map (Ok true) (omega arith)))
     six false q =
         let l = ltb-false (head x).v (over_needed (head x) x.table c) q in
         let i = over_needed_law (laid_walked w) c far in
@@ -171,8 +173,8 @@ module _ {x : Mem} (w : Follows x) where
   unfolding prepare_by
   prepare_says z f =
       subst (Says x z)
-      (sym (ap (λ (b : Bool). cond b (cond (ranked x) (did (Refused 4) x) (prepare_id x z)) (did (Refused 3) x)) (follows_walked w))) (go (ranked x) refl)
+      (sym (ap (λ (b : Bool). cond b (cond (ranked x) (did (Err is_ranked) x) (prepare_id x z)) (did (Err not_laid_out) x)) (follows_walked w))) (go (ranked x) refl)
     where
-      go : (b : Bool) → ranked x ≡ b → Says x z (cond b (did (Refused 4) x) (prepare_id x z))
-      go true e = refuses_prepare w z 4 (prepare_ranked z e)
+      go : (b : Bool) → ranked x ≡ b → Says x z (cond b (did (Err is_ranked) x) (prepare_id x z))
+      go true e = refuses_prepare w z is_ranked (prepare_ranked z e)
       go false e = prepare_id_law z f e

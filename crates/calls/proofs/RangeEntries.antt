@@ -3,7 +3,6 @@ use mathlib.Core.Path.{◌≡◌, sym, ap, ap₂, ◌∙◌}
 use mathlib.Core.Bool.{true, false, ◌&&◌}
 use Prim.Native.Nat.{ℕ, ◌+◌, ◌*◌, ◌/◌, ◌%◌, ◌<◌}
 use native.Mathlib.Nat.{div-add-mod'}
-use native.Mathlib.Omega.{arith}
 use lib.Pow.{pow_pos}
 use Rattle.layout.specs.Mem.{Mem}
 use Rattle.document.specs.Sizes.{top}
@@ -60,7 +59,7 @@ module _ {x : Mem} (w : Follows x) where
       go (found e l q) = (e, record { there = l; chunk = q })
       go (missed m) =
           absurd (let f : false ≡ true = sym (holds_absent x n (ap decoded (word_of_none (head x) x.table (n / top (head x)) m))) ∙ h in
-          let z : ◌≡◌ {A = ℕ} 0 1 = cc in omega arith)
+          cc)
 
   -- the entries from chunk c on
   pub from_cut : (c : ℕ) → Cut (chunk_at (head x) x.table) (entries (head x) x.table) (entry_from x c) c

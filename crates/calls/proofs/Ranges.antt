@@ -20,8 +20,6 @@ use Rattle.dense.proofs.Bits.{is_set_one, one_is_set}
 use Rattle.document.specs.Sizes.{top}
 use Rattle.document.specs.Refusals.{not_laid_out}
 use Rattle.document.specs.declared.sizes.Sizes.{Sizes}
-use Rattle.document.specs.declared.answer.Truth.{Truth}
-use Rattle.document.specs.declared.answer.Truth.TheVariants.{Is, Refused}
 use Rattle.layout.specs.Mem.{Mem}
 use Rattle.layout.specs.Sizes.{head}
 use Rattle.layout.specs.Places.{row_part, page_part}
@@ -37,15 +35,17 @@ use Rattle.calls.specs.Counts.{entries_of}
 use Rattle.calls.specs.Range.{chunk_by, entry_from, clip_low, clip_high, any_at, any_entry, or_next, any_run, any_from, any_of, any_by}
 use Rattle.calls.proofs.Clips.{clip_low_law, clip_high_law, past_high, chunk_mono}
 use Rattle.calls.proofs.RangeEntries.{Entry, entry_id, some_ids, entries_fit, entry_spot, holds_entry, member_entry, from_cut}
+use Rattle.document.specs.Results.{Truth}
+use Rattle.std.specs.Prelude.{Err, Ok}
 
 -- a yes or no that decides a statement
 record Says (t : Truth) (A : Type 0) : Type 0 where
   yes : Bool
-  is : t ≡ Is yes
+  is : t ≡ Ok yes
   decides : Decides yes A
 
-no : {A : Type 0} → (A → ⊥) → Says (Is false) A
-no n = record { yes = false; is = refl; decides = record { sound = λ h. absurd (let z : ◌≡◌ {A = ℕ} 0 1 = cc in omega arith); whole = λ a. absurd (n a) } }
+no : {A : Type 0} → (A → ⊥) → Says (Ok false) A
+no n = record { yes = false; is = refl; decides = record { sound = λ h. absurd cc; whole = λ a. absurd (n a) } }
 
 says_same : {t : Truth} {A B : Type 0} → Says t A → (A → B) → (B → A) → Says t B
 says_same s f g = record { yes = s.yes; is = s.is; decides = same_of s.decides f g }
@@ -58,25 +58,25 @@ or_says t r {A} {B} {C} s n f g c = go s.yes refl
     go true e =
         record {
           yes = true;
-          is = ap (λ (q : Truth). or_next q r) (s.is ∙ ap Is e);
+          is = ap (λ (q : Truth). or_next q r) (s.is ∙ ap Ok e);
           decides = record { sound = λ h. f (s.decides.sound e); whole = λ h. refl };
         }
     go false e =
         record {
           yes = n.yes;
-          is = ap (λ (q : Truth). or_next q r) (s.is ∙ ap Is e) ∙ n.is;
+          is = ap (λ (q : Truth). or_next q r) (s.is ∙ ap Ok e) ∙ n.is;
           decides = record { sound = λ h. g (n.decides.sound h); whole = λ h. one (c h) };
         }
       where
         one : A ⊎ B → n.yes ≡ true
-        one (inl a) = absurd (let h : false ≡ true = sym e ∙ s.decides.whole a in let z : ◌≡◌ {A = ℕ} 0 1 = cc in omega arith)
+        one (inl a) = absurd (let h : false ≡ true = sym e ∙ s.decides.whole a in cc)
         one (inr b) = n.decides.whole b
 
 -- ---- one place
 
 any_at_law : (h : Sizes) (x : Mem) (p : Place) → RowListed h x.rows p → (a b : ℕ)
     → Says (any_at x a b (spot_on h p)) ((o : ℕ) × (a ≤ o) × (o ≤ b) × (offsets h x p o ≡ true))
-any_at_law h x Absent w a b = record { yes = false; is = refl; decides = record { sound = λ h. absurd (let z : ◌≡◌ {A = ℕ} 0 1 = cc in omega arith); whole = λ q. q.3 } }
+any_at_law h x Absent w a b = record { yes = false; is = refl; decides = record { sound = λ h. absurd cc; whole = λ q. q.3 } }
 any_at_law h x (Sparse r l) w a b =
     let row = row_part h x.rows r in
     record { yes = _; is = refl; decides = sparse.any_of_law row l (listed_rising h row l w) a b }
@@ -146,7 +146,7 @@ module _ {x : Mem} (w : Follows x) (lo hi : ℕ) where
           by (inr m) = inl (rw m s.3)
 
       go : (b : Bool) → leb (chunk_by x e) (hi / top (head x)) ≡ b → Says (any_run x lo hi n (suc e)) (Some n (suc e))
-          → Says (cond b (or_next (any_entry x lo hi e) (any_run x lo hi n (suc e))) (Is false)) (Some (suc n) e)
+          → Says (cond b (or_next (any_entry x lo hi e) (any_run x lo hi n (suc e))) (Ok false)) (Some (suc n) e)
       go true t r =
           or_says (any_entry x lo hi e) (any_run x lo hi n (suc e))
           (any_entry_law e (omega arith) (f e (omega arith) (omega arith)) (leb-true (chunk_by x e) (hi / top (head x)) t))
@@ -215,24 +215,24 @@ count_between P lo hi = record {
 }
 
 module _ {x : Mem} (w : Follows x) where
-  from_is : (lo hi : ℕ) → any_from x lo hi ≡ Is (ltb (count (holds x) lo) (count (holds x) (suc hi)))
-  from_is lo hi = let s = any_from_law w lo hi in s.is ∙ ap Is (same_test s.decides (count_between (holds x) lo hi))
+  from_is : (lo hi : ℕ) → any_from x lo hi ≡ Ok (ltb (count (holds x) lo) (count (holds x) (suc hi)))
+  from_is lo hi = let s = any_from_law w lo hi in s.is ∙ ap Ok (same_test s.decides (count_between (holds x) lo hi))
 
-  of_is : (lo hi : ℤ) → any_of x lo hi ≡ Is (any_in_range (holds x) lo hi)
+  of_is : (lo hi : ℤ) → any_of x lo hi ≡ Ok (any_in_range (holds x) lo hi)
   unfolding any_in_range rank
   of_is (pos a) (pos b) = go (ltb b a) refl
     where
-      go : (t : Bool) → ltb b a ≡ t → cond t (Is false) (any_from x a b) ≡ Is (ltb (count (holds x) a) (count (holds x) (suc b)))
+      go : (t : Bool) → ltb b a ≡ t → cond t (Ok false) (any_from x a b) ≡ Ok (ltb (count (holds x) a) (count (holds x) (suc b)))
       go true e =
           let l = ltb-true b a e in
-          ap Is (sym (le-ltb (count (holds x) a) (count (holds x) (suc b)) (count_mono (holds x) (suc b) a (omega arith))))
+          ap Ok (sym (le-ltb (count (holds x) a) (count (holds x) (suc b)) (count_mono (holds x) (suc b) a (omega arith))))
       go false e = from_is a b
-  of_is (negsuc a) (pos b) = from_is 0 b ∙ ap (λ (n : ℕ). Is (ltb n (count (holds x) (suc b)))) (count_zero (holds x))
-  of_is (pos a) (negsuc zero) = ap Is (sym (le-ltb (count (holds x) a) (count (holds x) 0) (omega (arith, count_zero (holds x)))))
-  of_is (pos a) (negsuc (suc b)) = ap Is (sym (le-ltb (count (holds x) a) 0 (omega arith)))
-  of_is (negsuc a) (negsuc zero) = ap Is (sym (le-ltb 0 (count (holds x) 0) (omega (arith, count_zero (holds x)))))
+  of_is (negsuc a) (pos b) = from_is 0 b ∙ ap (λ (n : ℕ). Ok (ltb n (count (holds x) (suc b)))) (count_zero (holds x))
+  of_is (pos a) (negsuc zero) = ap Ok (sym (le-ltb (count (holds x) a) (count (holds x) 0) (omega (arith, count_zero (holds x)))))
+  of_is (pos a) (negsuc (suc b)) = ap Ok (sym (le-ltb (count (holds x) a) 0 (omega arith)))
+  of_is (negsuc a) (negsuc zero) = ap Ok (sym (le-ltb 0 (count (holds x) 0) (omega (arith, count_zero (holds x)))))
   of_is (negsuc a) (negsuc (suc b)) = refl
 
-  pub any_in_range_is : (lo hi : ℤ) → any_by x lo hi ≡ Is (any_in_range (holds x) lo hi)
+  pub any_in_range_is : (lo hi : ℤ) → any_by x lo hi ≡ Ok (any_in_range (holds x) lo hi)
   unfolding any_by
-  any_in_range_is lo hi = ap (λ (b : Bool). cond b (any_of x lo hi) (Refused not_laid_out)) (entries_fit w) ∙ of_is lo hi
+  any_in_range_is lo hi = ap (λ (b : Bool). cond b (any_of x lo hi) (Err not_laid_out)) (entries_fit w) ∙ of_is lo hi

@@ -156,7 +156,7 @@ module _ (x : Mem) (mode : ranked x ≡ false) (c n : ℕ) (le : n ≤ c) (far :
   pub place_free : (q : Place) → place_of (head y) y.table n ≡ q → has_page q ≡ false → lowest_page (head y) y < (head y).p
   place_free Absent e h = page_free absent (kind_at Absent e) refl
   place_free (Sparse r l) e h = page_free sparse (kind_at (Sparse r l) e) refl
-  place_free (Dense p) e h = absurd (let v : ◌≡◌ {A = ℕ} 0 1 = cc in omega arith)
+  place_free (Dense p) e h = absurd cc
 
   pub page_for : (q : Place) → place_of (head y) y.table n ≡ q → has_page q ≡ false → PageFor (head y) y.table n q (lowest_page (head y) y)
   page_for q e h =

@@ -13,7 +13,8 @@ use Rattle.sparse.specs.Search.{spot_in, place_if}
 use Rattle.sparse.specs.Edit.{inserted_at}
 use Rattle.sparse.proofs.Rows.{below_le}
 use Rattle.sparse.proofs.Searches.{search_rising, spot_rising}
-use Rattle.sparse.proofs.Edits.{less_or, length_inserted, inserted_beyond, inserted_at_law}
+use Rattle.std.proofs.lemmas.Bool.{cases_lt}
+use Rattle.sparse.proofs.Edits.{length_inserted, inserted_beyond, inserted_at_law}
 use Rattle.sparse.proofs.Inserts.{member_insert, rising_insert}
 use Rattle.layout.specs.Mem.{Mem}
 use Rattle.document.specs.Sizes.{top}
@@ -53,7 +54,7 @@ module _ (h : Sizes) (row : List ℕ) (l o : ℕ) (w : Listed h row l) (long : l
     member_entered = member_insert (row_of row) (row_of row') at l o entered
 
     below_entered : o < top h → (i : ℕ) → i < suc l → get_or row' i 0 < top h
-    below_entered t i m = go i m (less_or i at) (less_or at i)
+    below_entered t i m = go i m (cases_lt i at) (cases_lt at i)
       where
         go : (i : ℕ) → i < suc l → (i < at) ⊎ (at ≤ i) → (at < i) ⊎ (i ≤ at) → get_or row' i 0 < top h
         go i m (inl a) b = let f = fits in let e = entered.below i a in let s = w.below i (omega arith) in omega arith

@@ -12,13 +12,12 @@ use borrow.Author.Tests.{leb-true, not-true, not-false}
 use mir.Syntax.{w64}
 use mir.Val.{SFits, of_z, to_z}
 use Rattle.numbers.specs.Ids.{split_of}
-use Rattle.numbers.specs.declared.Split.{Split}
-use Rattle.numbers.specs.declared.Split.TheVariants as split
 use Rattle.numbers.proofs.Signs.{hop}
 use Rattle.numbers.proofs.Splits.{split_lies, lies_below}
 use Rattle.sums.proofs.Rules.{both}
 use Rattle.layout.specs.Mem.{Mem}
 use Rattle.calls.specs.Reading.{shift_ok}
+use Rattle.std.specs.Prelude.{Option, Some}
 
 -- s is allowed
 pub record Shift (s : ℕ) : Type 0 where
@@ -41,13 +40,13 @@ module _ (x : Mem) (s : ℕ) (e : s ≡ get_or x.table 0 0) where
   shift_yes h = ap (λ (n : ℕ). leb 9 n && leb n 25) (sym e) ∙ not-false _ h
 
 -- what `split` answered, of the id itself
-module _ (s : ℕ) (z : ℤ) (f : SFits w64 z) (r : Split) (e : r ≡ split_of s (to_z w64 (of_z w64 z))) where
-  pub split_is : (q : Split) → r ≡ q → q ≡ split_of s z
+module _ (s : ℕ) (z : ℤ) (f : SFits w64 z) (r : Option (ℕ × ℕ)) (e : r ≡ split_of s (to_z w64 (of_z w64 z))) where
+  pub split_is : (q : Option (ℕ × ℕ)) → r ≡ q → q ≡ split_of s z
   split_is q g = sym g ∙ (e ∙ hop (split_of s) z f)
 
-  pub chunk_small : (c o : ℕ) → Shift s → r ≡ split.At c o → (c < 2 ^ 62) × (o < 2 ^ s)
+  pub chunk_small : (c o : ℕ) → Shift s → r ≡ Some (c, o) → (c < 2 ^ 62) × (o < 2 ^ s)
   chunk_small c o h g =
-      let l = split_lies s z c o (split_is (split.At c o) g) in
+      let l = split_lies s z c o (split_is (Some (c, o)) g) in
       let t = h.low in
       let u = h.high in
       (lt_of_lt_of_le (lies_below s z c o (omega arith) f l) (pow_mono {j = 62} (omega arith)), l.within)

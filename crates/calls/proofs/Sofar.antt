@@ -120,7 +120,7 @@ module _ (x : Mem) (mode : ranked x ≡ false) (c n : ℕ) (le : n ≤ c) (far :
         same = set_filled (head y) w.sizes blank row l long (clear there) listed;
         is = refl;
       }
-  takes_page (Dense p) e h = absurd (let v : ◌≡◌ {A = ℕ} 0 1 = cc in omega arith)
+  takes_page (Dense p) e h = absurd cc
 
   module _ (q : Place) (is : place_of (head y) y.table n ≡ q) (i : TakesPage q) where
     abbrev z : Mem

@@ -25,11 +25,9 @@ use Rattle.layout_laws.proofs.Sizes.{page_length}
 use Rattle.steps.specs.Steps.{paged}
 use Rattle.steps.specs.Effects.{PageFor, Becomes}
 use Rattle.steps.proofs.Paged.{paged_becomes}
-use Rattle.document.specs.declared.answer.Truth.TheVariants.{Is}
 use Rattle.calls.specs.Insert.{free_page, turn_dense}
 use Rattle.document.specs.Insert.{new_answer}
 use Rattle.document.specs.Room.{overflows, sparses, denses, verdict}
-use Rattle.calls.specs.declared.plan.Plan.TheVariants.{Refuse, Turn}
 use Rattle.layout.proofs.FirstFree.{lowest, found_less, none_full}
 use Rattle.calls.proofs.Verdicts.{verdict_eight, verdict_room, denses_is, sparses_fit, overflows_fit, Needs}
 use Rattle.calls.proofs.PageEdits.{free_bits, set_turned, length_turned}
@@ -37,6 +35,9 @@ use Rattle.calls.proofs.Plans.{turn_dense_law}
 use Rattle.calls.proofs.Grown.{refuses, grows}
 use Rattle.calls.proofs.Wanted.{chunk, offset, placed, after, Good, Into, offset_in, open_at, holds_of, kind_of_law, wanted_new, grown_needs}
 use Rattle.calls.proofs.Rowings.{own_row, own_listed, own_grown, own_kind}
+use Rattle.calls.specs.declared.plan.Plan.TheVariants.{Turn}
+use Rattle.document.specs.Refusals.{pages_full}
+use Rattle.std.specs.Prelude.{Err, Ok}
 
 module _ {x : Mem} {n : ℕ} (i : Into x n) (r l : ℕ) (e : placed x n ≡ Sparse r l) (full : (head x).m ≤ l) (new : member (row_of (row_part (head x) x.rows r)) l (offset x n) ≡ false) where
   abbrev w : Follows x
@@ -63,7 +64,7 @@ module _ {x : Mem} {n : ℕ} (i : Into x n) (r l : ℕ) (e : placed x n ≡ Spar
   row_room : sparses (head x) (after x n) ≤ (head x).r
   row_room = let a = sparses_fit w in let u = row_less in omega arith
 
-  wanted : new_answer (state_of x) (pos n) ≡ verdict (head x) (after x n) (Is true)
+  wanted : new_answer (state_of x) (pos n) ≡ verdict (head x) (after x n) (Ok true)
   wanted = wanted_new i (holds_of i (Sparse r l) e ∙ new)
 
   module _ (there : free_page x < (head x).p) where
@@ -90,10 +91,10 @@ module _ {x : Mem} {n : ℕ} (i : Into x n) (r l : ℕ) (e : placed x n ≡ Spar
           old_is = sym e;
           there = there;
           long = length_turned (head x) w.sizes blank row l long clear (own_listed i r l e) (offset x n);
-          came = PageFor.new_page refl low (λ q. absurd (let z : ◌≡◌ {A = ℕ} 0 1 = cc in omega arith));
+          came = PageFor.new_page refl low (λ q. absurd cc);
         })
 
-    turn_good : Good x n (Turn r l (free_page x))
+    turn_good : Good x n (Ok (Turn r l (free_page x)))
     turn_good =
         let f = found_less w.pages_full_to there in
         let p = denses_is w in
@@ -101,17 +102,17 @@ module _ {x : Mem} {n : ℕ} (i : Into x n) (r l : ℕ) (e : placed x n ≡ Spar
         grows n (Dense (free_page x)) (is_set page') opened
         (λ j m. set_turned (head x) w.sizes blank row l long clear (own_listed i r l e) (offset x n) (offset_in i) j ∙ ap (λ (p : Place). offsets (head x) x p j || eqb (offset x n) j) (sym e))
         (new_answer (state_of x) (pos n))
-        (wanted ∙ verdict_room (head x) (after x n) (Is true) over_room row_room (omega arith))
+        (wanted ∙ verdict_room (head x) (after x n) (Ok true) over_room row_room (omega arith))
         (own_kind i r l e false (le-ltb l (head x).m full))
         (subst (λ (q : Place). Moves x q (Dense (free_page x))) (sym e) low)
 
-  eight : (b : Bool) → ltb (free_page x) (head x).p ≡ b → Good x n (cond b (Turn r l (free_page x)) (Refuse 8))
+  eight : (b : Bool) → ltb (free_page x) (head x).p ≡ b → Good x n (cond b (Ok (Turn r l (free_page x))) (Err pages_full))
   eight true q = turn_good (ltb-true (free_page x) (head x).p q)
   eight false q =
       let f = none_full w.pages_full_to (ltb-false (free_page x) (head x).p q) in
       let p = denses_is w in
       let y = page_more in
-      refuses x w (pos n) (new_answer (state_of x) (pos n)) 8 (wanted ∙ verdict_eight (head x) (after x n) (Is true) over_room row_room (omega arith))
+      refuses x w (pos n) (new_answer (state_of x) (pos n)) pages_full (wanted ∙ verdict_eight (head x) (after x n) (Ok true) over_room row_room (omega arith))
 
   pub turn_plan : Good x n (turn_dense x r l)
   turn_plan = subst (Good x n) (sym (turn_dense_law w r l (own_row i r l e).there)) (eight (ltb (free_page x) (head x).p) refl)

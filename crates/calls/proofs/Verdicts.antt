@@ -17,39 +17,40 @@ use Rattle.document.specs.State.{Kind, is_present, is_sparse, is_dense}
 use Rattle.layout.specs.Meaning.{kinds}
 use Rattle.layout.specs.Follows.{Follows}
 use Rattle.document.specs.declared.sizes.Sizes.{Sizes}
-use Rattle.document.specs.declared.answer.Truth.{Truth}
-use Rattle.document.specs.declared.answer.Truth.TheVariants.{Refused}
 use Rattle.layout_laws.proofs.Walked.{laid_walked}
 use Rattle.layout_laws.proofs.ChunkCounts.{over_chunks, sparse_rows, dense_pages}
 use Rattle.document.specs.Room.{overflows, sparses, denses, verdict}
 use Rattle.layout.proofs.FirstFree.{taken}
+use Rattle.document.specs.Refusals.{overflow_full, pages_full, rows_full}
+use Rattle.document.specs.Results.{Truth}
+use Rattle.std.specs.Prelude.{Err}
 
 -- ---- the verdict on a map
 
 module _ (h : Sizes) (k : ℕ → Kind) (a : Truth) where
   abbrev rows7 : Truth → Truth
-  rows7 b = cond (ltb h.r (sparses h k)) (Refused 7) b
+  rows7 b = cond (ltb h.r (sparses h k)) (Err rows_full) b
 
   abbrev pages8 : Truth
-  pages8 = cond (ltb h.p (denses h k)) (Refused 8) a
+  pages8 = cond (ltb h.p (denses h k)) (Err pages_full) a
 
-  at_six : (b : Bool) → ltb h.v (overflows h k) ≡ b → verdict h k a ≡ cond b (Refused 6) (rows7 pages8)
+  at_six : (b : Bool) → ltb h.v (overflows h k) ≡ b → verdict h k a ≡ cond b (Err overflow_full) (rows7 pages8)
   unfolding verdict
-  at_six b e = ap (λ (t : Bool). cond t (Refused 6) (rows7 pages8)) e
+  at_six b e = ap (λ (t : Bool). cond t (Err overflow_full) (rows7 pages8)) e
 
-  at_seven : (b : Bool) → ltb h.r (sparses h k) ≡ b → rows7 pages8 ≡ cond b (Refused 7) pages8
-  at_seven b e = ap (λ (t : Bool). cond t (Refused 7) pages8) e
+  at_seven : (b : Bool) → ltb h.r (sparses h k) ≡ b → rows7 pages8 ≡ cond b (Err rows_full) pages8
+  at_seven b e = ap (λ (t : Bool). cond t (Err rows_full) pages8) e
 
-  at_eight : (b : Bool) → ltb h.p (denses h k) ≡ b → pages8 ≡ cond b (Refused 8) a
-  at_eight b e = ap (λ (t : Bool). cond t (Refused 8) a) e
+  at_eight : (b : Bool) → ltb h.p (denses h k) ≡ b → pages8 ≡ cond b (Err pages_full) a
+  at_eight b e = ap (λ (t : Bool). cond t (Err pages_full) a) e
 
-  pub verdict_six : h.v < overflows h k → verdict h k a ≡ Refused 6
+  pub verdict_six : h.v < overflows h k → verdict h k a ≡ Err overflow_full
   verdict_six l = at_six true (lt-ltb h.v (overflows h k) l)
 
-  pub verdict_seven : overflows h k ≤ h.v → h.r < sparses h k → verdict h k a ≡ Refused 7
+  pub verdict_seven : overflows h k ≤ h.v → h.r < sparses h k → verdict h k a ≡ Err rows_full
   verdict_seven l m = at_six false (le-ltb h.v (overflows h k) l) ∙ at_seven true (lt-ltb h.r (sparses h k) m)
 
-  pub verdict_eight : overflows h k ≤ h.v → sparses h k ≤ h.r → h.p < denses h k → verdict h k a ≡ Refused 8
+  pub verdict_eight : overflows h k ≤ h.v → sparses h k ≤ h.r → h.p < denses h k → verdict h k a ≡ Err pages_full
   verdict_eight l m n =
       at_six false (le-ltb h.v (overflows h k) l) ∙ at_seven false (le-ltb h.r (sparses h k) m) ∙ at_eight true (lt-ltb h.p (denses h k) n)
 

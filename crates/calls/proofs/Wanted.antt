@@ -17,16 +17,17 @@ use Rattle.layout.specs.Follows.{Follows}
 use Rattle.layout.specs.declared.place.Place.{Place}
 use Rattle.steps.specs.Effects.{Open}
 use Rattle.numbers.proofs.Splits as splits
-use Rattle.document.specs.declared.answer.Truth.{Truth}
-use Rattle.document.specs.declared.answer.Truth.TheVariants.{Is, Refused}
 use Rattle.calls.specs.Insert.{Told, acted}
 use Rattle.document.specs.Insert.{chunk_size, grown, grown_map, new_answer}
 use Rattle.document.specs.Room.{verdict}
 use Rattle.calls.proofs.Outcomes.{Inserts}
-use Rattle.calls.specs.declared.plan.Plan.{Plan}
-use Rattle.calls.specs.declared.plan.Plan.TheVariants.{Known}
 use Rattle.calls.proofs.Verdicts.{verdict_room, sparses_fit, denses_fit, overflows_fit, Needs, needs}
 use Rattle.calls.proofs.Grown.{grown_at, grown_off, known_member}
+use Rattle.calls.specs.Planned.{InsertPlan}
+use Rattle.calls.specs.declared.plan.Plan.TheVariants.{Known}
+use Rattle.document.specs.Refusals.{is_ranked}
+use Rattle.document.specs.Results.{Truth}
+use Rattle.std.specs.Prelude.{Err, Ok}
 
 -- where id n lies
 abbrev pub chunk : Mem → ℕ → ℕ
@@ -47,7 +48,7 @@ abbrev pub Says : Mem → ℤ → Truth → Told → Type 0
 Says x z wanted t = Inserts x z wanted t.answer t.after
 
 -- a plan that does as document 01 says
-abbrev pub Good : Mem → ℕ → Plan → Type 0
+abbrev pub Good : Mem → ℕ → InsertPlan → Type 0
 Good x n q = Says x (pos n) (new_answer (state_of x) (pos n)) (acted x (chunk x n) (offset x n) q)
 
 -- an open set that follows the layout, and an id of 0 or more
@@ -76,17 +77,17 @@ module _ {x : Mem} {n : ℕ} (i : Into x n) where
 
   -- ---- the answer that is wanted
 
-  wanted_if : (b : Bool) → holds x n ≡ b → new_answer (state_of x) (pos n) ≡ cond b (Is false) (verdict (head x) (after x n) (Is true))
+  wanted_if : (b : Bool) → holds x n ≡ b → new_answer (state_of x) (pos n) ≡ cond b (Ok false) (verdict (head x) (after x n) (Ok true))
   unfolding new_answer
   wanted_if b e =
-      let v = verdict (head x) (after x n) (Is true) in
-      ap (λ (t : Bool). cond t (Refused 4) (cond (holds x n) (Is false) v)) i.mode ∙ ap (λ (t : Bool). cond t (Is false) v) e
+      let v = verdict (head x) (after x n) (Ok true) in
+      ap (λ (t : Bool). cond t (Err is_ranked) (cond (holds x n) (Ok false) v)) i.mode ∙ ap (λ (t : Bool). cond t (Ok false) v) e
 
   -- a member: no
-  pub known_good : holds x n ≡ true → Good x n Known
+  pub known_good : holds x n ≡ true → Good x n (Ok Known)
   known_good e = known_member i.follows n (new_answer (state_of x) (pos n)) e (wanted_if true e)
 
-  pub wanted_new : holds x n ≡ false → new_answer (state_of x) (pos n) ≡ verdict (head x) (after x n) (Is true)
+  pub wanted_new : holds x n ≡ false → new_answer (state_of x) (pos n) ≡ verdict (head x) (after x n) (Ok true)
   wanted_new e = wanted_if false e
 
   -- ---- what the map needs after
@@ -97,7 +98,7 @@ module _ {x : Mem} {n : ℕ} (i : Into x n) where
       (grown_at x (chunk x n) ∙ ap (λ (k : Kind). grown k (chunk_size (state_of x) (chunk x n)) (head x).m) e ∙ g)
 
   -- a chunk that keeps its kind needs nothing
-  pub same_room : (a : Kind) → kinds x (chunk x n) ≡ a → grown a (chunk_size (state_of x) (chunk x n)) (head x).m ≡ a → holds x n ≡ false → new_answer (state_of x) (pos n) ≡ Is true
+  pub same_room : (a : Kind) → kinds x (chunk x n) ≡ a → grown a (chunk_size (state_of x) (chunk x n)) (head x).m ≡ a → holds x n ≡ false → new_answer (state_of x) (pos n) ≡ Ok true
   same_room a e g new =
       let d = grown_needs a a e g in
       let u = d.over (leb (head x).d (chunk x n)) refl in
@@ -106,4 +107,4 @@ module _ {x : Mem} {n : ℕ} (i : Into x n) where
       let b = overflows_fit i.follows in
       let c = sparses_fit i.follows in
       let f = denses_fit i.follows in
-      wanted_new new ∙ verdict_room (head x) (after x n) (Is true) (omega arith) (omega arith) (omega arith)
+      wanted_new new ∙ verdict_room (head x) (after x n) (Ok true) (omega arith) (omega arith) (omega arith)

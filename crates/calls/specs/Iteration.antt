@@ -1,22 +1,21 @@
 -- Iteration from a start, on any memory: a run over the entries from the start's chunk on, until the record is full; then one range test past its last id decides the mark.
-use Rattle.std.specs.Prelude.{ℕ, zero, suc, ◌-◌, ◌*◌, ◌/◌, ◌^◌, true, false, cond, List, ℤ, pos, negsuc, get_or, take, drop, ltb}
+use Rattle.std.specs.Prelude.{ℕ, zero, suc, ◌-◌, ◌*◌, ◌/◌, ◌^◌, true, false, cond, List, ℤ, pos, negsuc, get_or, take, drop, ltb, Ok, Err}
 use Rattle.std.proofs.Math.IntN.{suc_ℤ}
 use Rattle.sums.specs.Members.{members_in, plus, fill, fill_to}
 use Rattle.sparse.specs.Listed.{offsets_from}
 use Rattle.dense.specs.Bits.{is_set}
 use Rattle.document.specs.Sizes.{top, last_chunk}
-use Rattle.document.specs.Refusals.{not_laid_out}
+use Rattle.document.specs.Refusals.{number, not_laid_out}
 use Rattle.document.specs.Iteration.{blank, refused_listing}
-use Rattle.document.specs.declared.answer.Truth.{Truth}
-use Rattle.document.specs.declared.answer.Truth.TheVariants as truth
 use Rattle.document.specs.declared.answer.Listing.{Listing}
 use Rattle.layout.specs.Mem.{Mem}
 use Rattle.layout.specs.Sizes.{head}
-use Rattle.layout.specs.declared.find.Spot.{Spot}
-use Rattle.layout.specs.declared.find.Spot.TheVariants.{Nowhere, Row, Page, Bad}
 use Rattle.calls.specs.Reading.{spot_by}
 use Rattle.calls.specs.Counts.{entries_ok, entries_of, word_by}
 use Rattle.calls.specs.Range.{chunk_by, entry_from, clip_low, any_by}
+use Rattle.document.specs.Results.{Truth}
+use Rattle.layout.specs.Found.{Spotted}
+use Rattle.layout.specs.declared.find.Spot.TheVariants.{Nowhere, Page, Row}
 
 -- the places of a record and how many are used, or a part that is not inside its pool
 pub data Filled : Type 0 where
@@ -28,11 +27,11 @@ abbrev pub filled_by : List ℤ → ℕ → List ℕ → Filled
 filled_by ids k ns = to (fill ids k ns) (fill_to ids k ns)
 
 -- the ids of a part from offset a on, in a chunk whose first id is b
-abbrev pub filled_at : Mem → ℕ → ℕ → List ℤ → ℕ → Spot → Filled
-filled_at x b a ids k Nowhere = to ids k
-filled_at x b a ids k (Row i n l) = filled_by ids k (plus b (offsets_from (take n (drop i x.rows)) l (top (head x)) a))
-filled_at x b a ids k (Page i n) = filled_by ids k (plus b (members_in (is_set (take n (drop i x.pages))) a (64 * n - a)))
-filled_at x b a ids k Bad = bad
+abbrev pub filled_at : Mem → ℕ → ℕ → List ℤ → ℕ → Spotted → Filled
+filled_at x b a ids k (Ok Nowhere) = to ids k
+filled_at x b a ids k (Ok (Row i n l)) = filled_by ids k (plus b (offsets_from (take n (drop i x.rows)) l (top (head x)) a))
+filled_at x b a ids k (Ok (Page i n)) = filled_by ids k (plus b (members_in (is_set (take n (drop i x.pages))) a (64 * n - a)))
+filled_at x b a ids k (Err n) = bad
 
 -- those of entry e that are not below lo; a chunk id of 2^(63-s) or more is no chunk's
 unfoldable pub fill_entry : Mem → ℕ → ℕ → List ℤ → ℕ → Filled
@@ -67,14 +66,14 @@ goes_on ids k = record { ids = ids; count = k; end = false; next = suc_ℤ (last
 
 -- by whether there is a member past the last id
 abbrev pub ended_by : List ℤ → ℕ → ℤ → Truth → Listing
-ended_by ids k start (truth.Is true) = goes_on ids k
-ended_by ids k start (truth.Is false) = ended ids k start
-ended_by ids k start (truth.Refused n) = refused_listing n
+ended_by ids k start (Ok true) = goes_on ids k
+ended_by ids k start (Ok false) = ended ids k start
+ended_by ids k start (Err n) = refused_listing (number n)
 
 abbrev pub record_by : Mem → ℤ → Filled → Listing
 record_by x start (to ids k) =
     cond (ltb k 64) (ended ids k start) (ended_by ids k start (any_by x (suc_ℤ (last_id ids)) (pos (2 ^ 63 - 1))))
-record_by x start bad = refused_listing not_laid_out
+record_by x start bad = refused_listing (number not_laid_out)
 
 -- a negative start is read as 0
 abbrev pub from_zero : ℤ → ℕ
@@ -83,4 +82,4 @@ from_zero (negsuc n) = 0
 
 -- `iter_from`
 unfoldable pub iter_by : Mem → ℤ → Listing
-iter_by x start = cond (entries_ok x.table) (record_by x start (fill_from x (from_zero start))) (refused_listing not_laid_out)
+iter_by x start = cond (entries_ok x.table) (record_by x start (fill_from x (from_zero start))) (refused_listing (number not_laid_out))

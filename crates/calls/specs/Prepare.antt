@@ -1,5 +1,5 @@
 -- `pre_allocate` on any memory: judged by arithmetic, then chunk after chunk made dense.
-use Rattle.std.specs.Prelude.{◌≡◌, ℕ, zero, suc, ◌+◌, ◌-◌, ◌/◌, ◌≤◌, List, false, cond, ◌&&◌, ℤ, pos, negsuc, ltb, eqb}
+use Rattle.std.specs.Prelude.{◌≡◌, ℕ, zero, suc, ◌+◌, ◌-◌, ◌/◌, ◌≤◌, List, false, cond, ◌&&◌, ℤ, pos, negsuc, ltb, eqb, Ok, Err}
 use Rattle.sums.specs.Ids.{count}
 use Rattle.dense.specs.Bits.{with_row}
 use Rattle.layout.specs.Mem.{Mem}
@@ -16,7 +16,6 @@ use Rattle.layout.specs.SetUp.{Did, did}
 use Rattle.document.specs.declared.sizes.Sizes.{Sizes}
 use Rattle.layout.specs.declared.place.Place.{Place}
 use Rattle.layout.specs.declared.place.Place.TheVariants.{Absent, Sparse, Dense}
-use Rattle.document.specs.declared.answer.Outcome.TheVariants.{Done, Refused}
 use Rattle.steps.specs.Steps.{paged}
 
 -- the lowest free page, P where there is none
@@ -60,15 +59,15 @@ pub record HasRoom (x : Mem) (c : ℕ) : Type 0 where
 -- 6 before 8; 7 can't arise
 abbrev pub prepare_to : Sizes → Mem → ℕ → Did
 prepare_to h x c =
-    cond (ltb h.v (over_needed h x.table c)) (did (Refused overflow_full) x)
-    (cond (ltb h.p (pages_needed h x.table c)) (did (Refused pages_full) x)
-    (did Done (densed_to h x (c + 1))))
+    cond (ltb h.v (over_needed h x.table c)) (did (Err overflow_full) x)
+    (cond (ltb h.p (pages_needed h x.table c)) (did (Err pages_full) x)
+    (did (Ok tt) (densed_to h x (c + 1))))
 
 abbrev pub prepare_id : Mem → ℤ → Did
 prepare_id x (pos n) = prepare_to (head x) x (n / top (head x))
-prepare_id x (negsuc n) = did Done x
+prepare_id x (negsuc n) = did (Ok tt) x
 
 -- 3, then 4, then the maximum
 unfoldable pub prepare_by : Mem → ℤ → Did
 prepare_by x z =
-    cond (walked x) (cond (eqb (mode_at x.table) 1) (did (Refused is_ranked) x) (prepare_id x z)) (did (Refused not_laid_out) x)
+    cond (walked x) (cond (eqb (mode_at x.table) 1) (did (Err is_ranked) x) (prepare_id x z)) (did (Err not_laid_out) x)

@@ -1,7 +1,6 @@
-// What an insert is to do, found before anything is written.
-#[derive(Clone, Copy)]
+// What an insert is to do, found before anything is written. Where it can't be done, the refusal stands in its place.
+#[derive(Clone, Copy, Debug, PartialEq, Eq)]
 pub enum Plan {
-    Refuse(u64),
     // negative, or a member already
     Known,
     // a bit of this page

@@ -1,30 +1,16 @@
 -- A code loses nothing: each kind of answer can be read back from it. Assumes nothing.
-use Prim.Native.Nat.{ℕ, zero, suc}
+use Prim.Native.Nat.{ℕ}
 use mathlib.Core.Path.{◌≡◌, refl, sym, ap, ap₂, ◌∙◌, subst}
 use mathlib.Core.Bool.{Bool, false, cond}
-use native.Mathlib.Omega.{arith}
+use lib.Dec.{eqb}
 use lib.IntN.{ℤ, pos}
 use mir.Syntax.{w64}
 use mir.Val.{SFits, of_z, to_z}
 use mir.Facts.{to_z-of_z}
 use Rattle.layout.specs.Mem.{Mem}
-use Rattle.document.specs.Refusals.{Numbered}
-use Rattle.document.specs.declared.answer.Outcome.{Outcome}
-use Rattle.document.specs.declared.answer.Outcome.TheVariants as outcome
-use Rattle.document.specs.declared.answer.Truth.{Truth}
-use Rattle.document.specs.declared.answer.Truth.TheVariants as truth
-use Rattle.document.specs.declared.answer.Amount.{Amount}
-use Rattle.document.specs.declared.answer.Amount.TheVariants as amount
-use Rattle.document.specs.declared.answer.Perhaps.{Perhaps}
-use Rattle.document.specs.declared.answer.Perhaps.TheVariants as perhaps
-use Rattle.document.specs.declared.plan.Planning.{Planning}
-use Rattle.document.specs.declared.plan.Planning.TheVariants as planning
+use Rattle.document.specs.Refusals.{number}
 use Rattle.document.specs.declared.plan.Span.{Span}
 use Rattle.document.specs.declared.plan.Span.TheVariants as span
-use Rattle.document.specs.declared.plan.Spanned.{Spanned}
-use Rattle.document.specs.declared.plan.Spanned.TheVariants as spanned
-use Rattle.document.specs.declared.plan.Ranks.{Ranks}
-use Rattle.document.specs.declared.plan.Ranks.TheVariants as ranks
 use Rattle.codes.specs.declared.answer.DoneAnswer.{DoneAnswer}
 use Rattle.codes.specs.declared.answer.TruthAnswer.{TruthAnswer}
 use Rattle.codes.specs.declared.answer.NumberAnswer.{NumberAnswer}
@@ -34,98 +20,132 @@ use Rattle.codes.specs.declared.cut.IntervalAnswer.{IntervalAnswer}
 use Rattle.codes.specs.declared.cut.RanksAnswer.{RanksAnswer}
 use Rattle.codes.specs.Codes.{outcome_code, truth_code, amount_code, perhaps_code, planning_code, interval_code, spanned_code, ranks_code, plan_in, span_in, Coded}
 use Rattle.codes.specs.Codes.{OutcomeNumbered, TruthNumbered, AmountNumbered, PerhapsNumbered, PlanningNumbered, SpannedNumbered, RanksNumbered}
+use Rattle.document.specs.Results.{Amount, Outcome, Perhaps, Planning, Ranked, Spanned, Truth}
+use Rattle.document.specs.declared.refusal.Refusal.{Refusal}
+use Rattle.document.specs.declared.refusal.Refusal.TheVariants.{OutsideSizes, TooShort, NotLaidOut, IsRanked, IsOpen, OverflowFull, RowsFull, PagesFull, NotPrepared, SizesDiffer, NoRoom, NoPartition}
+use Rattle.std.specs.Prelude.{Err, None, Ok, Option, Some}
 
 -- ---- reading a code: a refusal, or what the other fields say
 
+-- the refusal of a number, if it is one
+abbrev pub refusal_of : ℕ → Option Refusal
+refusal_of n =
+    cond (eqb n 1) (Some OutsideSizes)
+    (cond (eqb n 2) (Some TooShort)
+    (cond (eqb n 3) (Some NotLaidOut)
+    (cond (eqb n 4) (Some IsRanked)
+    (cond (eqb n 5) (Some IsOpen)
+    (cond (eqb n 6) (Some OverflowFull)
+    (cond (eqb n 7) (Some RowsFull)
+    (cond (eqb n 8) (Some PagesFull)
+    (cond (eqb n 9) (Some NotPrepared)
+    (cond (eqb n 10) (Some SizesDiffer)
+    (cond (eqb n 11) (Some NoRoom)
+    (cond (eqb n 12) (Some NoPartition)
+    None)))))))))))
+
 -- 0 is no refusal
-abbrev pub or_refused : {A : Type 0} → ℕ → (ℕ → A) → A → A
-or_refused zero refuse a = a
-or_refused (suc n) refuse a = refuse (suc n)
+abbrev pub or_refused : {A : Type 0} → Option Refusal → (Refusal → A) → A → A
+or_refused None refuse a = a
+or_refused (Some n) refuse a = refuse n
 
 abbrev pub outcome_in : DoneAnswer → Outcome
-outcome_in a = or_refused a.refusal outcome.Refused outcome.Done
+outcome_in a = or_refused (refusal_of a.refusal) Err (Ok tt)
 
 abbrev pub truth_in : TruthAnswer → Truth
-truth_in a = or_refused a.refusal truth.Refused (truth.Is a.yes)
+truth_in a = or_refused (refusal_of a.refusal) Err (Ok a.yes)
 
 abbrev pub amount_in : NumberAnswer → Amount
-amount_in a = or_refused a.refusal amount.Refused (amount.Of a.value)
+amount_in a = or_refused (refusal_of a.refusal) Err (Ok a.value)
 
 abbrev pub perhaps_in : OptionalAnswer → Perhaps
-perhaps_in a = or_refused a.refusal perhaps.Refused (cond a.has (perhaps.Of a.value) perhaps.Nothing)
+perhaps_in a = or_refused (refusal_of a.refusal) Err (cond a.has (Ok (Some a.value)) (Ok None))
 
 abbrev pub planning_in : PlanAnswer → Planning
-planning_in a = or_refused a.refusal planning.Refused (planning.Made (plan_in a.total a.slots a.partitions))
+planning_in a = or_refused (refusal_of a.refusal) Err (Ok (plan_in a.total a.slots a.partitions))
 
 abbrev pub spanned_in : IntervalAnswer → Spanned
-spanned_in a = or_refused a.refusal spanned.Refused (spanned.Of (span_in a.has_high a.low a.high))
+spanned_in a = or_refused (refusal_of a.refusal) Err (Ok (span_in a.has_high a.low a.high))
 
-abbrev pub ranks_in : RanksAnswer → Ranks
-ranks_in a = or_refused a.refusal ranks.Refused (ranks.Of a.first a.count)
+abbrev pub ranks_in : RanksAnswer → Ranked
+ranks_in a = or_refused (refusal_of a.refusal) Err (Ok (record { first = a.first; count = a.count }))
 
 -- ---- what was coded is read
 
-refused_back : {A : Type 0} (refuse : ℕ → A) (a : A) (n : ℕ) → Numbered n → or_refused n refuse a ≡ refuse n
-refused_back refuse a zero h = absurd (omega (arith, h.0))
-refused_back refuse a (suc n) h = refl
+refusal_back : (n : Refusal) → refusal_of (number n) ≡ Some n
+refusal_back OutsideSizes = refl
+refusal_back TooShort = refl
+refusal_back NotLaidOut = refl
+refusal_back IsRanked = refl
+refusal_back IsOpen = refl
+refusal_back OverflowFull = refl
+refusal_back RowsFull = refl
+refusal_back PagesFull = refl
+refusal_back NotPrepared = refl
+refusal_back SizesDiffer = refl
+refusal_back NoRoom = refl
+refusal_back NoPartition = refl
+
+refused_back : {A : Type 0} (refuse : Refusal → A) (a : A) (n : Refusal) → or_refused (refusal_of (number n)) refuse a ≡ refuse n
+refused_back refuse a n = ap (λ (r : Option Refusal). or_refused r refuse a) (refusal_back n)
 
 pub outcome_back : (a : Outcome) → OutcomeNumbered a → outcome_in (outcome_code a) ≡ a
-outcome_back outcome.Done h = refl
-outcome_back (outcome.Refused n) h = refused_back outcome.Refused outcome.Done n h
+outcome_back (Ok tt) h = refl
+outcome_back (Err n) h = refused_back Err (Ok tt) n
 
 pub truth_back : (a : Truth) → TruthNumbered a → truth_in (truth_code a) ≡ a
-truth_back (truth.Is b) h = refl
-truth_back (truth.Refused n) h = refused_back truth.Refused (truth.Is false) n h
+truth_back (Ok b) h = refl
+truth_back (Err n) h = refused_back Err (Ok false) n
 
 pub amount_back : (a : Amount) → AmountNumbered a → amount_in (amount_code a) ≡ a
-amount_back (amount.Of n) h = refl
-amount_back (amount.Refused n) h = refused_back amount.Refused (amount.Of 0) n h
+amount_back (Ok n) h = refl
+amount_back (Err n) h = refused_back Err (Ok 0) n
 
 pub perhaps_back : (a : Perhaps) → PerhapsNumbered a → perhaps_in (perhaps_code a) ≡ a
-perhaps_back (perhaps.Of n) h = refl
-perhaps_back perhaps.Nothing h = refl
-perhaps_back (perhaps.Refused n) h = refused_back perhaps.Refused perhaps.Nothing n h
+perhaps_back (Ok (Some n)) h = refl
+perhaps_back (Ok None) h = refl
+perhaps_back (Err n) h = refused_back Err (Ok None) n
 
 pub planning_back : (a : Planning) → PlanningNumbered a → planning_in (planning_code a) ≡ a
-planning_back (planning.Made p) h = refl
-planning_back (planning.Refused n) h = refused_back planning.Refused (planning.Made (plan_in 0 0 0)) n h
+planning_back (Ok p) h = refl
+planning_back (Err n) h = refused_back Err (Ok (plan_in 0 0 0)) n
 
 pub spanned_back : (a : Spanned) → SpannedNumbered a → spanned_in (spanned_code a) ≡ a
-spanned_back (spanned.Of (span.Between lo hi)) h = refl
-spanned_back (spanned.Of (span.From lo)) h = refl
-spanned_back (spanned.Refused n) h = refused_back spanned.Refused (spanned.Of (span.From (pos 0))) n h
+spanned_back (Ok (span.Between lo hi)) h = refl
+spanned_back (Ok (span.From lo)) h = refl
+spanned_back (Err n) h = refused_back Err (Ok (span.From (pos 0))) n
 
-pub ranks_back : (a : Ranks) → RanksNumbered a → ranks_in (ranks_code a) ≡ a
-ranks_back (ranks.Of first n) h = refl
-ranks_back (ranks.Refused n) h = refused_back ranks.Refused (ranks.Of 0 0) n h
+pub ranks_back : (a : Ranked) → RanksNumbered a → ranks_in (ranks_code a) ≡ a
+ranks_back (Ok k) h = refl
+ranks_back (Err n) h = refused_back Err (Ok (record { first = 0; count = 0 })) n
 
 -- ---- beside a refusal every other field is 0
 
 pub truth_alone : (a : Truth) → ((truth_code a).refusal ≡ 0 → ⊥) → (truth_code a).yes ≡ false
-truth_alone (truth.Is b) h = absurd (h refl)
-truth_alone (truth.Refused n) h = refl
+truth_alone (Ok b) h = absurd (h refl)
+truth_alone (Err n) h = refl
 
 pub amount_alone : (a : Amount) → ((amount_code a).refusal ≡ 0 → ⊥) → (amount_code a).value ≡ 0
-amount_alone (amount.Of n) h = absurd (h refl)
-amount_alone (amount.Refused n) h = refl
+amount_alone (Ok n) h = absurd (h refl)
+amount_alone (Err n) h = refl
 
 pub perhaps_alone : (a : Perhaps) → ((perhaps_code a).refusal ≡ 0 → ⊥) → ((perhaps_code a).has ≡ false) × ((perhaps_code a).value ≡ 0)
-perhaps_alone (perhaps.Of n) h = absurd (h refl)
-perhaps_alone perhaps.Nothing h = (refl, refl)
-perhaps_alone (perhaps.Refused n) h = (refl, refl)
+perhaps_alone (Ok (Some n)) h = absurd (h refl)
+perhaps_alone (Ok None) h = (refl, refl)
+perhaps_alone (Err n) h = (refl, refl)
 
 pub planning_alone : (a : Planning) → ((planning_code a).refusal ≡ 0 → ⊥) → ((planning_code a).total ≡ 0) × ((planning_code a).slots ≡ 0) × ((planning_code a).partitions ≡ 0)
-planning_alone (planning.Made p) h = absurd (h refl)
-planning_alone (planning.Refused n) h = (refl, refl, refl)
+planning_alone (Ok p) h = absurd (h refl)
+planning_alone (Err n) h = (refl, refl, refl)
 
 pub spanned_alone : (a : Spanned) → ((spanned_code a).refusal ≡ 0 → ⊥) → spanned_code a ≡ interval_code (spanned_code a).refusal false (pos 0) (pos 0)
-spanned_alone (spanned.Of (span.Between lo hi)) h = absurd (h refl)
-spanned_alone (spanned.Of (span.From lo)) h = absurd (h refl)
-spanned_alone (spanned.Refused n) h = refl
+spanned_alone (Ok (span.Between lo hi)) h = absurd (h refl)
+spanned_alone (Ok (span.From lo)) h = absurd (h refl)
+spanned_alone (Err n) h = refl
 
-pub ranks_alone : (a : Ranks) → ((ranks_code a).refusal ≡ 0 → ⊥) → ((ranks_code a).first ≡ 0) × ((ranks_code a).count ≡ 0)
-ranks_alone (ranks.Of first n) h = absurd (h refl)
-ranks_alone (ranks.Refused n) h = (refl, refl)
+pub ranks_alone : (a : Ranked) → ((ranks_code a).refusal ≡ 0 → ⊥) → ((ranks_code a).first ≡ 0) × ((ranks_code a).count ≡ 0)
+ranks_alone (Ok k) h = absurd (h refl)
+ranks_alone (Err n) h = (refl, refl)
 
 -- ---- an interval's ends, as the machine passes them on
 

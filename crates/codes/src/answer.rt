@@ -1,9 +1,9 @@
-// An answer for C: one definition for each kind of answer gives document 01's number and values, case by case.
+// An answer for C: one conversion for each kind of answer gives document 01's number and values, case by case.
 // refusal is document 01's number, or 0; beside a number every other field is 0, here and in cut.rt.
 ghost use Rattle.std.specs.Prelude.{◌≡◌};
 ghost use Rattle.codes.specs.Codes.{outcome_code, truth_code, amount_code, perhaps_code};
 
-use document::answer::{Amount, Outcome, Perhaps, Truth};
+use document::refusal::Refusal;
 
 // Done, where refusal is 0.
 #[repr(C)]
@@ -37,64 +37,66 @@ pub struct OptionalAnswer {
     pub value: u64,
 }
 
-// A call that only does something.
-pub fn of_outcome(a: Outcome) -> DoneAnswer
-    ensures { result ≡ outcome_code a }
-{
-    match a {
-        Outcome::Done => DoneAnswer { refusal: 0 },
-        Outcome::Refused(n) => DoneAnswer { refusal: n },
+impl From<Result<(), Refusal>> for DoneAnswer {
+    ghost from_gives = { λ a r. r ≡ outcome_code a };
+
+    fn from(a: Result<(), Refusal>) -> DoneAnswer {
+        let refusal = match a {
+            Ok(()) => 0,
+            Err(n) => n.number(),
+        };
+        DoneAnswer { refusal }
     }
 }
 
-// Yes or no.
-pub fn of_truth(a: Truth) -> TruthAnswer
-    ensures { result ≡ truth_code a }
-{
-    match a {
-        Truth::Is(b) => TruthAnswer { refusal: 0, yes: b },
-        Truth::Refused(n) => TruthAnswer {
-            refusal: n,
-            yes: false,
-        },
+impl From<Result<bool, Refusal>> for TruthAnswer {
+    ghost from_gives = { λ a r. r ≡ truth_code a };
+
+    fn from(a: Result<bool, Refusal>) -> TruthAnswer {
+        match a {
+            Ok(yes) => TruthAnswer { refusal: 0, yes },
+            Err(n) => TruthAnswer {
+                refusal: n.number(),
+                yes: false,
+            },
+        }
     }
 }
 
-// A number.
-pub fn of_amount(a: Amount) -> NumberAnswer
-    ensures { result ≡ amount_code a }
-{
-    match a {
-        Amount::Of(n) => NumberAnswer {
-            refusal: 0,
-            value: n,
-        },
-        Amount::Refused(n) => NumberAnswer {
-            refusal: n,
-            value: 0,
-        },
+impl From<Result<u64, Refusal>> for NumberAnswer {
+    ghost from_gives = { λ a r. r ≡ amount_code a };
+
+    fn from(a: Result<u64, Refusal>) -> NumberAnswer {
+        match a {
+            Ok(value) => NumberAnswer { refusal: 0, value },
+            Err(n) => NumberAnswer {
+                refusal: n.number(),
+                value: 0,
+            },
+        }
     }
 }
 
-// A number or none.
-pub fn of_perhaps(a: Perhaps) -> OptionalAnswer
-    ensures { result ≡ perhaps_code a }
-{
-    match a {
-        Perhaps::Of(n) => OptionalAnswer {
-            refusal: 0,
-            has: true,
-            value: n,
-        },
-        Perhaps::Nothing => OptionalAnswer {
-            refusal: 0,
-            has: false,
-            value: 0,
-        },
-        Perhaps::Refused(n) => OptionalAnswer {
-            refusal: n,
-            has: false,
-            value: 0,
-        },
+impl From<Result<Option<u64>, Refusal>> for OptionalAnswer {
+    ghost from_gives = { λ a r. r ≡ perhaps_code a };
+
+    fn from(a: Result<Option<u64>, Refusal>) -> OptionalAnswer {
+        match a {
+            Ok(Some(value)) => OptionalAnswer {
+                refusal: 0,
+                has: true,
+                value,
+            },
+            Ok(None) => OptionalAnswer {
+                refusal: 0,
+                has: false,
+                value: 0,
+            },
+            Err(n) => OptionalAnswer {
+                refusal: n.number(),
+                has: false,
+                value: 0,
+            },
+        }
     }
 }

@@ -1,8 +1,9 @@
-// A plan's answers for C: one definition for each kind of answer gives document 01's number and values, case by case.
+// A plan's answers for C: one conversion for each kind of answer gives document 01's number and values, case by case.
 ghost use Rattle.std.specs.Prelude.{◌≡◌};
-ghost use Rattle.codes.specs.Codes.{planning_code, span_code, spanned_code, ranks_code};
+ghost use Rattle.codes.specs.Codes.{planning_code, spanned_code, ranks_code};
 
-use document::plan::{Planning, Ranks, Span, Spanned};
+use document::plan::{Plan, Ranks, Span};
+use document::refusal::Refusal;
 
 // The plan that was made.
 #[repr(C)]
@@ -33,75 +34,69 @@ pub struct RanksAnswer {
     pub count: u64,
 }
 
-// A plan.
-pub fn of_planning(a: Planning) -> PlanAnswer
-    ensures { result ≡ planning_code a }
-{
-    match a {
-        Planning::Made(p) => PlanAnswer {
-            refusal: 0,
-            total: p.total,
-            slots: p.slots,
-            partitions: p.partitions,
-        },
-        Planning::Refused(n) => PlanAnswer {
-            refusal: n,
-            total: 0,
-            slots: 0,
-            partitions: 0,
-        },
+impl From<Result<Plan, Refusal>> for PlanAnswer {
+    ghost from_gives = { λ a r. r ≡ planning_code a };
+
+    fn from(a: Result<Plan, Refusal>) -> PlanAnswer {
+        match a {
+            Ok(p) => PlanAnswer {
+                refusal: 0,
+                total: p.total,
+                slots: p.slots,
+                partitions: p.partitions,
+            },
+            Err(n) => PlanAnswer {
+                refusal: n.number(),
+                total: 0,
+                slots: 0,
+                partitions: 0,
+            },
+        }
     }
 }
 
-// An interval.
-fn of_span(i: Span) -> IntervalAnswer
-    ensures { result ≡ span_code i }
-{
-    match i {
-        Span::Between(low, high) => IntervalAnswer {
-            refusal: 0,
-            has_high: true,
-            low,
-            high,
-        },
-        Span::From(low) => IntervalAnswer {
-            refusal: 0,
-            has_high: false,
-            low,
-            high: 0,
-        },
+impl From<Result<Span, Refusal>> for IntervalAnswer {
+    ghost from_gives = { λ a r. r ≡ spanned_code a };
+
+    fn from(a: Result<Span, Refusal>) -> IntervalAnswer {
+        match a {
+            Ok(Span::Between(low, high)) => IntervalAnswer {
+                refusal: 0,
+                has_high: true,
+                low,
+                high,
+            },
+            Ok(Span::From(low)) => IntervalAnswer {
+                refusal: 0,
+                has_high: false,
+                low,
+                high: 0,
+            },
+            Err(n) => IntervalAnswer {
+                refusal: n.number(),
+                has_high: false,
+                low: 0,
+                high: 0,
+            },
+        }
     }
 }
 
-// A partition's interval.
-pub fn of_spanned(a: Spanned) -> IntervalAnswer
-    ensures { result ≡ spanned_code a }
-{
-    match a {
-        Spanned::Of(i) => of_span(i),
-        Spanned::Refused(n) => IntervalAnswer {
-            refusal: n,
-            has_high: false,
-            low: 0,
-            high: 0,
-        },
-    }
-}
+impl From<Result<Ranks, Refusal>> for RanksAnswer {
+    ghost from_gives = { λ a r. r ≡ ranks_code a };
 
-// A partition's ranks.
-pub fn of_ranks(a: Ranks) -> RanksAnswer
-    ensures { result ≡ ranks_code a }
-{
-    match a {
-        Ranks::Of(first, count) => RanksAnswer {
-            refusal: 0,
-            first,
-            count,
-        },
-        Ranks::Refused(n) => RanksAnswer {
-            refusal: n,
-            first: 0,
-            count: 0,
-        },
+    fn from(a: Result<Ranks, Refusal>) -> RanksAnswer {
+        match a {
+            Ok(k) => RanksAnswer {
+                refusal: 0,
+                first: k.first,
+                count: k.count,
+            },
+            Err(n) => RanksAnswer {
+                refusal: n.number(),
+                first: 0,
+                count: 0,
+            },
+        }
     }
 }

@@ -1,12 +1,12 @@
 -- From the union's model to what its contract says, by the laws of `unions`. Assumes nothing.
 use mathlib.Core.Path.{◌≡◌, sym, subst}
 use Rattle.document.specs.Union.{Join}
-use Rattle.document.specs.declared.answer.Outcome.{Outcome}
 use Rattle.layout.specs.Mem.{Mem}
 use Rattle.layout.specs.Follows.{Follows}
 use Rattle.unions.specs.Union.{Met, met, union_by}
 use Rattle.unions.proofs.Said.{union_says}
 use Rattle.contracts.specs.Does.{RightUnion, Joins}
+use Rattle.document.specs.Results.{Outcome}
 
 abbrev Right : Mem → Mem → Join → Met → Type 0
 Right x y j m = RightUnion x y j m.answer m.here m.there

@@ -5,7 +5,6 @@ use lib.IntN.{ℤ, pos, negsuc}
 use Rattle.document.specs.Calls.{Said, whether, many, maybe, listed}
 use Rattle.document.specs.Calls.{Ask, get, range_test, chunk_id, len, is_empty, has_any, chunk_count, iterate, rank_of, rank_if_set, total_count, check}
 use Rattle.document.specs.Answers.{chunk_in, reply}
-use Rattle.document.specs.declared.answer.Truth.TheVariants as truth
 use Rattle.layout.specs.Mem.{Mem}
 use Rattle.layout.specs.Sizes.{head}
 use Rattle.layout.specs.Meaning.{state_of}
@@ -17,6 +16,7 @@ use Rattle.calls.proofs.Iterations.{iterate_is}
 use Rattle.calls.proofs.Counting.{len_is, empty_is, chunks_is, any_is}
 use Rattle.ranks.proofs.Ranks.{rank_is, rank_if_is, total_is}
 use Rattle.contracts.specs.Does.{AskedBy, Answers}
+use Rattle.std.specs.Prelude.{Ok}
 
 module _ {x : Mem} (w : Follows x) where
   chunk_of_any : (z : ℤ) → chunk_of_by x z ≡ chunk_in (head x) z
@@ -35,7 +35,7 @@ module _ {x : Mem} (w : Follows x) where
   model_right (rank_of z) e = e ∙ ap many (rank_is w z)
   model_right (rank_if_set z) e = e ∙ ap maybe (rank_if_is w z)
   model_right total_count e = e ∙ ap many (total_is w)
-  model_right check e = e.said ∙ ap (λ (b : Bool). whether (truth.Is b)) (e.decides.whole w)
+  model_right check e = e.said ∙ ap (λ (b : Bool). whether (Ok b)) (e.decides.whole w)
 
 -- a call that meets its model answers what document 01 says
 pub answers : (x : Mem) (k : Ask) {a : Said} → AskedBy x k a → Answers x k a

@@ -3,7 +3,6 @@ use mathlib.Core.Path.{◌≡◌, sym, ap, subst, ◌∙◌, fun_ext}
 use Rattle.document.specs.Sizes.{InRange}
 use Rattle.document.specs.State.{empty}
 use Rattle.document.specs.declared.sizes.Sizes.{Sizes}
-use Rattle.document.specs.declared.answer.Outcome.{Outcome}
 use Rattle.layout.specs.Mem.{Mem}
 use Rattle.layout.specs.Sizes.{RoomIn}
 use Rattle.layout.specs.Meaning.{state_of}
@@ -13,6 +12,7 @@ use Rattle.layout_laws.proofs.Fresh.{head_fresh, fresh_follows, fresh_holds, fre
 use Rattle.layout_laws.proofs.SetUp.{set_up_sizes, set_up_short, set_up_done}
 use Rattle.contracts.specs.Does.{SetsUp}
 use Rattle.contracts.proofs.Steps.{same_state}
+use Rattle.document.specs.Results.{Outcome}
 
 parts : {a b : Outcome} {x y : Mem} → did a x ≡ did b y → (a ≡ b) × (x ≡ y)
 parts e = (ap (λ (d : Did). d.answer) e, ap (λ (d : Did). d.after) e)

@@ -2,7 +2,6 @@
 use mathlib.Core.Path.{◌≡◌, refl, sym, ap, subst, ◌∙◌, fun_ext}
 use mathlib.Core.Bool.{Bool, true, false, cond}
 use Prim.Native.Nat.{ℕ}
-use native.Mathlib.Omega.{arith}
 use lib.IntN.{ℤ}
 use lib.Dec.{eqb}
 use Rattle.sums.specs.Ids.{Ids}
@@ -12,10 +11,6 @@ use Rattle.document.specs.Prepare.{prepare_answer, readied}
 use Rattle.document.specs.Calls.{Call, insert, put, prepared, prepare, rank_up, leave, Fitting, Said, whether, that}
 use Rattle.document.specs.Answers.{in_mode, rank_up_answer, leave_answer}
 use Rattle.document.specs.declared.sizes.Sizes.{Sizes}
-use Rattle.document.specs.declared.answer.Outcome.{Outcome}
-use Rattle.document.specs.declared.answer.Outcome.TheVariants as outcome
-use Rattle.document.specs.declared.answer.Truth.{Truth}
-use Rattle.document.specs.declared.answer.Truth.TheVariants as truth
 use Rattle.layout.specs.Mem.{Mem}
 use Rattle.layout.specs.Meaning.{ranked, state_of}
 use Rattle.layout.specs.Follows.{Follows}
@@ -26,6 +21,10 @@ use Rattle.ranks.proofs.Turns.{Turns}
 use Rattle.ranks.proofs.Forms.{rank_up_says, open_says}
 use Rattle.contracts.specs.Runs.{Ran, ran, ran_by}
 use Rattle.contracts.specs.Does.{Right, Does}
+use Rattle.document.specs.Refusals.{is_open, is_ranked}
+use Rattle.document.specs.Results.{Outcome, Truth}
+use Rattle.std.specs.Prelude.{Err, Ok}
+use Rattle.document.specs.declared.refusal.Refusal.{Refusal}
 
 -- ---- states by their parts
 
@@ -37,30 +36,27 @@ same_state p q r s = λ i. state (p i) (q i) (r i) (s i)
 
 module _ {x y : Mem} where
   inserts_state : {z : ℤ} {a : Truth} (w : Truth) → Inserts x z w a y → state_of y ≡ inserted (state_of x) z w
-  inserts_state (truth.Is b) i =
+  inserts_state (Ok b) i =
       same_state i.sizes (ap (λ (m : ℕ). eqb m 1) i.mode) (fun_ext (i.members b i.answer)) (fun_ext (i.map b i.answer))
-  inserts_state (truth.Refused n) i = ap state_of (i.refused n i.answer)
+  inserts_state (Err n) i = ap state_of (i.refused n i.answer)
 
   prepares_state : {z : ℤ} {a : Outcome} → Prepares x z a y → (w : Outcome) → a ≡ w → state_of y ≡ readied (state_of x) z w
-  prepares_state p outcome.Done e = same_state p.sizes (ap (λ (m : ℕ). eqb m 1) p.mode) (fun_ext p.members) (fun_ext (p.map e))
-  prepares_state p (outcome.Refused n) e = ap state_of (p.refused n e)
+  prepares_state p (Ok tt) e = same_state p.sizes (ap (λ (m : ℕ). eqb m 1) p.mode) (fun_ext p.members) (fun_ext (p.map e))
+  prepares_state p (Err n) e = ap state_of (p.refused n e)
 
   -- a refusal to turn comes only where the mode is there already
-  turns_state : {b : Bool} {a : Outcome} (w : Outcome) → Turns x w b a y → ((n : ℕ) → w ≡ outcome.Refused n → ranked x ≡ b) → state_of y ≡ in_mode (state_of x) b
-  turns_state outcome.Done t r = same_state t.sizes (t.mode t.answer) (fun_ext t.members) (fun_ext t.map)
-  turns_state (outcome.Refused n) t r = ap state_of (t.refused n t.answer) ∙ same_state refl (r n refl) refl refl
+  turns_state : {b : Bool} {a : Outcome} (w : Outcome) → Turns x w b a y → ((n : Refusal) → w ≡ Err n → ranked x ≡ b) → state_of y ≡ in_mode (state_of x) b
+  turns_state (Ok tt) t r = same_state t.sizes (t.mode t.answer) (fun_ext t.members) (fun_ext t.map)
+  turns_state (Err n) t r = ap state_of (t.refused n t.answer) ∙ same_state refl (r n refl) refl refl
 
 -- ---- the model of one call
 
-done_refused : (n : ℕ) → outcome.Done ≡ outcome.Refused n → ⊥
-done_refused n e = let z : ◌≡◌ {A = ℕ} 0 1 = cc in omega arith
-
-already_ranked : (b : Bool) (n : ℕ) → cond b (outcome.Refused 4) outcome.Done ≡ outcome.Refused n → b ≡ true
+already_ranked : (b : Bool) (n : Refusal) → cond {A = Outcome} b (Err is_ranked) (Ok tt) ≡ Err n → b ≡ true
 already_ranked true n e = refl
-already_ranked false n e = absurd (done_refused n e)
+already_ranked false n e = absurd cc
 
-already_open : (b : Bool) (n : ℕ) → cond b outcome.Done (outcome.Refused 5) ≡ outcome.Refused n → b ≡ false
-already_open true n e = absurd (done_refused n e)
+already_open : (b : Bool) (n : Refusal) → cond {A = Outcome} b (Ok tt) (Err is_open) ≡ Err n → b ≡ false
+already_open true n e = absurd cc
 already_open false n e = refl
 
 abbrev Good : Mem → Call → Ran → Type 0

@@ -1,5 +1,5 @@
 -- What the contract of every call on a set says: its model on any memory, and document 01's words on memory that follows the layout.
-use Rattle.std.specs.Prelude.{◌≡◌, Bool}
+use Rattle.std.specs.Prelude.{◌≡◌, Bool, Ok, Err}
 use Rattle.sums.specs.Rules.{Decides}
 use Rattle.document.specs.State.{empty}
 use Rattle.document.specs.Sizes.{InRange}
@@ -9,9 +9,6 @@ use Rattle.document.specs.Calls.{Ask, get, range_test, chunk_id, len, is_empty, 
 use Rattle.document.specs.Answers.{answer, after, reply}
 use Rattle.document.specs.Union.{Join, union_answer, united, leftover}
 use Rattle.document.specs.declared.sizes.Sizes.{Sizes}
-use Rattle.document.specs.declared.answer.Outcome.{Outcome}
-use Rattle.document.specs.declared.answer.Outcome.TheVariants.{Done, Refused}
-use Rattle.document.specs.declared.answer.Truth.TheVariants as truth
 use Rattle.layout.specs.Mem.{Mem}
 use Rattle.layout.specs.Sizes.{RoomIn}
 use Rattle.layout.specs.Meaning.{state_of}
@@ -24,6 +21,7 @@ use Rattle.calls.specs.Iteration.{iter_by}
 use Rattle.ranks.specs.Rank.{rank_by, rank_if_by, total_by}
 use Rattle.unions.specs.Union.{met, union_by}
 use Rattle.contracts.specs.Runs.{ran, ran_by}
+use Rattle.document.specs.Results.{Outcome}
 
 -- ---- calls that change a set
 
@@ -43,7 +41,7 @@ pub record Does (x : Mem) (c : Call) (a : Said) (y : Mem) : Type 0 where
 -- the full check: yes exactly when memory follows the layout
 pub record Checked (x : Mem) (a : Said) : Type 0 where
   pub yes : Bool
-  pub said : a ≡ whether (truth.Is yes)
+  pub said : a ≡ whether (Ok yes)
   pub decides : Decides yes (Follows x)
 
 -- the model of a reading call
@@ -71,9 +69,9 @@ pub record Answers (x : Mem) (k : Ask) (a : Said) : Type 0 where
 -- set_up with sizes h in memory x answers a and leaves memory y: 1, 2, or an empty open set
 pub record SetsUp (h : Sizes) (x : Mem) (a : Outcome) (y : Mem) : Type 0 where
   pub by : did a y ≡ set_up_by h x
-  pub outside : (InRange h → ⊥) → (a ≡ Refused outside_sizes) × (y ≡ x)
-  pub short : InRange h → (RoomIn h x → ⊥) → (a ≡ Refused too_short) × (y ≡ x)
-  pub made : InRange h → RoomIn h x → (a ≡ Done) × Follows y × (state_of y ≡ empty h)
+  pub outside : (InRange h → ⊥) → (a ≡ Err outside_sizes) × (y ≡ x)
+  pub short : InRange h → (RoomIn h x → ⊥) → (a ≡ Err too_short) × (y ≡ x)
+  pub made : InRange h → RoomIn h x → (a ≡ Ok tt) × Follows y × (state_of y ≡ empty h)
 
 -- ---- union
 

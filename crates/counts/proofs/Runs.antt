@@ -1,7 +1,7 @@
 -- The members of the entries one by one. Assumes nothing.
 use mathlib.Core.Path.{◌≡◌, refl, sym, ◌∙◌, ap, ap₂}
 use mathlib.Core.List.{List}
-use mathlib.Core.Bool.{Bool, true, false, not, and-true}
+use mathlib.Core.Bool.{Bool, true, false, cond, not, and-true}
 use Prim.Native.Nat.{ℕ, zero, suc, ◌+◌, ◌-◌, ◌*◌, ◌≤◌, ◌<◌}
 use native.Mathlib.Omega.{arith}
 use lib.Dec.{ltb, eqb}
@@ -15,17 +15,20 @@ use Rattle.sums.proofs.Counts.{count_none, count_split}
 use Rattle.sums.proofs.Rules.{all_more}
 use Rattle.dense.specs.Bits.{bits_to, any_in}
 use Rattle.dense.proofs.Counts.{bits_zero, bits_le}
-use Rattle.numbers.proofs.Powers.{powers}
 use Rattle.layout.specs.Mem.{Mem}
-use Rattle.layout.specs.Sizes.{head}
 use Rattle.layout.specs.Short.{spot_of}
-use Rattle.layout.specs.declared.find.Spot.{Spot}
-use Rattle.layout.specs.declared.find.Spot.TheVariants.{Nowhere, Row, Page, Bad}
+use Rattle.document.specs.Refusals.{not_laid_out}
+use Rattle.document.specs.Results.{Amount, Truth}
+use Rattle.document.specs.declared.refusal.Refusal.{Refusal}
 use Rattle.calls.specs.Reading.{spot_by}
-use Rattle.calls.specs.Counts.{word_by, is_good, size_in, good_at, size_by, used_at}
-use Rattle.entries.proofs.Runs.{Run}
-use Rattle.layout.proofs.Lent.{span, length_lent}
-use Rattle.calls.proofs.Spots.{InPages, spot_row, spot_page}
+use Rattle.calls.specs.Counts.{entries_ok, word_by, is_good, size_in, good_at, size_by, used_at}
+use Rattle.entries.proofs.Runs.{run}
+use Rattle.entries.proofs.Parts.{PageLent, part_refused, page_lent}
+use Rattle.layout.proofs.Lent.{span}
+use Rattle.calls.proofs.Spots.{spot_row}
+use Rattle.layout.specs.Found.{Spotted}
+use Rattle.layout.specs.declared.find.Spot.TheVariants.{Nowhere, Page, Row}
+use Rattle.std.specs.Prelude.{Result, Ok, Err}
 
 zero_not : (k : ℕ) → not (ltb 0 k) ≡ eqb k 0
 zero_not zero = refl
@@ -38,50 +41,46 @@ none_bit ws n h =
     let e : 64 * n - 1 + 1 ≡ 64 * n = omega arith in
     ap not (ap₂ ltb (bits_zero ws) (ap (bits_to ws) e)) ∙ zero_not (bits_to ws (64 * n))
 
+-- a page, where the entries lie in the table
+pub page_here : (x : Mem) (w a n : ℕ) → entries_ok x.table ≡ true → Ok (Page a n) ≡ spot_by x w → PageLent x a n
+page_here x w a n ok f = let r = run x.table ok in page_lent x w a n r.low r.high f
+
 module _ (x : Mem) (e : ℕ) where
-  module _ (q : Spot) (f : q ≡ spot_by x (word_by x e)) where
-    pub good_is : is_good q ≡ good_at x e
-    unfolding good_at
-    good_is = ap is_good f
+  -- what the entry answers, with f of its members
+  module _ {A : Type 0} (f : ℕ → A) where
+    pub part_is : (q : Spotted) → q ≡ spot_by x (word_by x e)
+        → ◌≡◌ {A = Result A Refusal} (cond (is_good q) (Ok (f (size_in x q))) (Err not_laid_out)) (cond (good_at x e) (Ok (f (size_by x e))) (Err not_laid_out))
+    unfolding good_at size_by
+    part_is q g = ap (λ (p : Spotted). cond {A = Result A Refusal} (is_good p) (Ok (f (size_in x p))) (Err not_laid_out)) g
 
-    pub size_is : size_in x q ≡ size_by x e
-    unfolding size_by
-    size_is = ap (size_in x) f
+    pub part_err : (n : Refusal) → Err n ≡ spot_by x (word_by x e) → ◌≡◌ {A = Result A Refusal} (Err n) (cond (good_at x e) (Ok (f (size_by x e))) (Err not_laid_out))
+    part_err n g = ap Err (part_refused x (word_by x e) n g) ∙ part_is (Err n) g
 
-    pub none_is : eqb (size_in x q) 0 ≡ eqb (size_by x e) 0
-    none_is = ap (λ (k : ℕ). eqb k 0) size_is
-
-  module _ (a n : ℕ) (f : Page a n ≡ spot_by x (word_by x e)) where
-    pub page_here : InPages (head x).s (length x.pages) a n
-    page_here = spot_page x (word_by x e) a n (sym f)
-
-    pub page_size : (k : ℕ) → k ≡ bits_to (take (a + n - a) (drop a x.pages)) (64 * length (take (a + n - a) (drop a x.pages))) → k ≡ size_by x e
+  module _ (a n : ℕ) (i : PageLent x a n) (f : Ok (Page a n) ≡ spot_by x (word_by x e)) where
+    pub page_size : (k : ℕ) → k ≡ bits_to (take (a + n - a) (drop a x.pages)) (64 * length (take (a + n - a) (drop a x.pages)))
+        → ◌≡◌ {A = Amount} (Ok k) (cond (good_at x e) (Ok (size_by x e)) (Err not_laid_out))
     page_size k g =
-        g ∙ (ap₂ (λ (i j : ℕ). bits_to (take i (drop a x.pages)) (64 * j)) (span a n) (length_lent x.pages a n page_here.inside) ∙ size_is (Page a n) f)
+        ap Ok (g ∙ ap₂ (λ (i j : ℕ). bits_to (take i (drop a x.pages)) (64 * j)) (span a n) i.words)
+        ∙ part_is (λ k. k) (Ok (Page a n)) f
 
-    pub page_none : (b : Bool) → 1 ≤ n → b ≡ any_in (take (a + n - a) (drop a x.pages)) 0 (64 * n - 1) → not b ≡ eqb (size_by x e) 0
-    page_none b h g =
-        ap not (g ∙ ap (λ (i : ℕ). any_in (take i (drop a x.pages)) 0 (64 * n - 1)) (span a n))
-        ∙ (none_bit (take n (drop a x.pages)) n h ∙ none_is (Page a n) f)
-
-    pub page_small : Run x.table → (8 ≤ n) × (n ≤ 524288)
-    page_small r =
-        let p = powers (head x).s r.low r.high in
-        let w = page_here.wide in
-        (omega (arith, p.some_words), omega (arith, p.most_words))
+    pub page_none : (b : Bool) → b ≡ any_in (take (a + n - a) (drop a x.pages)) 0 (64 * n - 1)
+        → ◌≡◌ {A = Truth} (Ok (not b)) (cond (good_at x e) (Ok (eqb (size_by x e) 0)) (Err not_laid_out))
+    page_none b g =
+        ap Ok (ap not (g ∙ ap (λ (i : ℕ). any_in (take i (drop a x.pages)) 0 (64 * n - 1)) (span a n)) ∙ none_bit (take n (drop a x.pages)) n (omega (arith, i.some)))
+        ∙ part_is (λ k. eqb k 0) (Ok (Page a n)) f
 
   -- a chunk has at most 2^25 members
-  pub size_most : Run x.table → size_by x e ≤ 33554432
+  pub size_most : entries_ok x.table ≡ true → size_by x e ≤ 33554432
   unfolding size_by
-  size_most r = go (spot_by x (word_by x e)) refl
+  size_most ok = go (spot_by x (word_by x e)) refl
     where
-      go : (q : Spot) → q ≡ spot_by x (word_by x e) → size_in x q ≤ 33554432
-      go Nowhere f = omega arith
-      go (Row a n l) f =
+      go : (q : Spotted) → q ≡ spot_by x (word_by x e) → size_in x q ≤ 33554432
+      go (Ok Nowhere) f = omega arith
+      go (Ok (Row a n l)) f =
           let i = spot_row x (word_by x e) a n l (sym f) in
           omega (arith, i.short, i.small)
-      go (Page a n) f = omega (arith, page_small a n f r, bits_le (take n (drop a x.pages)) (64 * n))
-      go Bad f = omega arith
+      go (Ok (Page a n)) f = omega (arith, page_here x (word_by x e) a n ok f, bits_le (take n (drop a x.pages)) (64 * n))
+      go (Err n) f = omega arith
 
 -- ---- entries from a to r - 1 that are absent
 

@@ -4,80 +4,73 @@ ghost use Rattle.document.specs.Calls.{len, is_empty, has_any, chunk_count, whet
 ghost use Rattle.contracts.specs.Does.{Answers};
 
 use crate::parts;
-use document::answer::{Amount, Truth};
-use document::refusal;
+use document::refusal::Refusal;
 use layout::entry;
 
 // The members.
-pub fn len(pages: &[u64], rows: &[u32], blocks: &[u32], table: &[u64]) -> Amount
+pub fn len(pages: &[u64], rows: &[u32], blocks: &[u32], table: &[u64]) -> Result<u64, Refusal>
     ensures { let x = mem pages.now rows.now blocks.now table.now in Answers x len (many result) }
 {
     if !entries::are(table) {
-        return Amount::Refused(refusal::NOT_LAID_OUT);
+        return Err(Refusal::NotLaidOut);
     }
     let n = entries::number(table);
-    let mut good = true;
-    let mut sum: u64 = 0;
+    let mut members: u64 = 0;
     let mut e: u64 = 0;
+    // No `for`, here and below: the next entry that has a word follows.
     while e < n {
-        let p = parts::part_at(pages, rows, blocks, table, e);
-        good = good & p.good;
-        sum += p.size;
+        members += parts::size_at(pages, rows, blocks, table, e)?;
         e = entries::next_used(table, e + 1, n);
     }
-    if good {
-        return Amount::Of(sum);
-    }
-    Amount::Refused(refusal::NOT_LAID_OUT)
+    Ok(members)
 }
 
 // Whether there is no member.
-pub fn is_empty(pages: &[u64], rows: &[u32], blocks: &[u32], table: &[u64]) -> Truth
+pub fn is_empty(pages: &[u64], rows: &[u32], blocks: &[u32], table: &[u64]) -> Result<bool, Refusal>
     ensures { let x = mem pages.now rows.now blocks.now table.now in Answers x is_empty (whether result) }
 {
     if !entries::are(table) {
-        return Truth::Refused(refusal::NOT_LAID_OUT);
+        return Err(Refusal::NotLaidOut);
     }
     let n = entries::number(table);
-    let mut good = true;
-    let mut none = true;
+    let mut empty = true;
     let mut e: u64 = 0;
     while e < n {
-        let p = parts::vacancy_at(pages, rows, blocks, table, e);
-        good = good & p.good;
-        none = none & p.none;
+        empty &= parts::is_empty_at(pages, rows, blocks, table, e)?;
         e = entries::next_used(table, e + 1, n);
     }
-    if good {
-        return Truth::Is(none);
-    }
-    Truth::Refused(refusal::NOT_LAID_OUT)
+    Ok(empty)
 }
 
 // Whether there is a chunk, be it empty.
-pub fn has_any(pages: &[u64], rows: &[u32], blocks: &[u32], table: &[u64]) -> Truth
+pub fn has_any(pages: &[u64], rows: &[u32], blocks: &[u32], table: &[u64]) -> Result<bool, Refusal>
     ensures { let x = mem pages.now rows.now blocks.now table.now in Answers x has_any (whether result) }
 {
     if !entries::are(table) {
-        return Truth::Refused(refusal::NOT_LAID_OUT);
+        return Err(Refusal::NotLaidOut);
     }
     let n = entries::number(table);
-    Truth::Is(entries::next_used(table, 0, n) < n)
+    Ok(entries::next_used(table, 0, n) < n)
 }
 
 // The chunks, empty ones too.
-pub fn allocated_chunk_count(pages: &[u64], rows: &[u32], blocks: &[u32], table: &[u64]) -> Amount
+pub fn allocated_chunk_count(
+    pages: &[u64],
+    rows: &[u32],
+    blocks: &[u32],
+    table: &[u64],
+) -> Result<u64, Refusal>
     ensures { let x = mem pages.now rows.now blocks.now table.now in Answers x chunk_count (many result) }
 {
     if !entries::are(table) {
-        return Amount::Refused(refusal::NOT_LAID_OUT);
+        return Err(Refusal::NotLaidOut);
     }
     let n = entries::number(table);
-    let mut sum: u64 = 0;
+    let mut chunks: u64 = 0;
     let mut e: u64 = 0;
     while e < n {
-        sum += (entry::word_by(table, e) != 0) as u64;
+        chunks += (entry::word_by(table, e) != 0) as u64;
         e = entries::next_used(table, e + 1, n);
     }
-    Amount::Of(sum)
+    Ok(chunks)
 }

@@ -1,5 +1,5 @@
 -- A boundary fits an i64 on any memory; on memory that follows the layout it is the least id with its rank. Assumes nothing.
-use mathlib.Core.Path.{◌≡◌, ap, ◌∙◌}
+use mathlib.Core.Path.{◌≡◌, refl, sym, ap, subst, ◌∙◌}
 use mathlib.Core.Bool.{true}
 use Prim.Native.Nat.{ℕ, suc, ◌-◌, ◌^◌, ◌≤◌, ◌<◌}
 use native.Mathlib.Omega.{arith}
@@ -10,8 +10,6 @@ use Rattle.sums.proofs.Counts.{count_suc, count_mono, byte_le}
 use Rattle.layout.specs.Mem.{Mem}
 use Rattle.layout.specs.Meaning.{holds, ranked}
 use Rattle.layout.specs.Follows.{Follows}
-use Rattle.document.specs.declared.answer.Amount.{Amount}
-use Rattle.document.specs.declared.answer.Amount.TheVariants as amount
 use Rattle.ranks.specs.Rank.{rank_by, rank_in}
 use Rattle.document.specs.Calls.{rank_of, many}
 use Rattle.contracts.specs.Does.{Answers}
@@ -19,6 +17,8 @@ use Rattle.ranks.proofs.AfterWalk.{rank_told}
 use Rattle.ranks.proofs.Ranks.{rank_in_is}
 use Rattle.cuts.specs.Plan.{narrowed, Ready, boundary_by}
 use Rattle.cuts.proofs.Narrowing.{First, narrowed_between, narrowed_first}
+use Rattle.document.specs.Results.{Amount}
+use Rattle.std.specs.Prelude.{Ok, IsOk}
 
 pub boundary_below : (x : Mem) (m : ℕ) → boundary_by x m < 2 ^ 63
 unfolding boundary_by
@@ -29,19 +29,14 @@ same_amount a b e = cc
 
 -- the rank that the code asked for, by its answer: a number, and never a refusal
 module _ (x : Mem) (y : Ready x) (n : ℕ) (z : ℤ) (a : Amount) (q : z ≡ pos n) (h : Answers x (rank_of z) (many a)) where
-  told : a ≡ amount.Of (rank_in x n)
+  told : a ≡ Ok (rank_in x n)
   told = same_amount a (rank_by x z) h.by ∙ ap (rank_by x) q ∙ rank_told y.walks y.mode n
 
-  pub rank_number : (k : ℕ) → a ≡ amount.Of k → k ≡ rank_in x n
+  pub rank_number : (k : ℕ) → a ≡ Ok k → k ≡ rank_in x n
   rank_number k d = let t = told in cc
 
-  pub never_refused : (c : ℕ) → a ≡ amount.Refused c → ⊥
-  never_refused c d = let t = told in let v : ◌≡◌ {A = ℕ} 0 1 = cc in omega arith
-
--- what the whole search answers
-pub boundary_is : (x : Mem) (m r : ℕ) → r ≡ narrowed (rank_in x) m 0 (2 ^ 63 - 1) → r ≡ boundary_by x m
-unfolding boundary_by
-boundary_is x m r e = e
+  pub never_refused : IsOk a
+  never_refused = subst IsOk (sym told) refl
 
 -- short of the total, the largest i64 has rank enough
 total_within : (P : Ids) (m n : ℕ) → m < count P (suc n) → m ≤ count P n

@@ -23,9 +23,11 @@ use Rattle.layout_laws.proofs.Ranks.{total_rank}
 use Rattle.document.specs.Plan.{plan_of}
 use Rattle.cuts.specs.Plan.{boundary_by, bounds_to, Cut, cut, plan_total, plan_by}
 use Rattle.document.specs.Plan.{plan_answer, PlansFor}
-use Rattle.document.specs.declared.plan.Planning.{Planning}
-use Rattle.document.specs.declared.plan.Planning.TheVariants.{Made, Refused}
 use Rattle.cuts.proofs.Boundaries.{boundary_least}
+use Rattle.document.specs.Refusals.{is_open, no_room, not_laid_out}
+use Rattle.document.specs.Results.{Planning}
+use Rattle.std.specs.Prelude.{Err, Ok}
+use Rattle.document.specs.declared.refusal.Refusal.{Refusal}
 
 module _ (x : Mem) (slots : ℕ) (bs : List ℤ) where
   -- ---- boundaries 1 to n
@@ -76,44 +78,41 @@ module _ (x : Mem) (slots : ℕ) (bs : List ℤ) where
   abbrev n : ℕ
   n = parts (total_at x.table) slots - 1
 
-  pub plan_bad : walked x ≡ false → plan_by x slots bs ≡ cut (Refused 3) bs
+  pub plan_bad : walked x ≡ false → plan_by x slots bs ≡ cut (Err not_laid_out) bs
   unfolding plan_by
-  plan_bad w = ap (λ (b : Bool). cond b (cond (ranked x) (plan_total x slots bs (total_at x.table)) (cut (Refused 5) bs)) (cut (Refused 3) bs)) w
+  plan_bad w = ap (λ (b : Bool). cond b (cond (ranked x) (plan_total x slots bs (total_at x.table)) (cut (Err is_open) bs)) (cut (Err not_laid_out) bs)) w
 
-  plan_well : walked x ≡ true → plan_by x slots bs ≡ cond (ranked x) (plan_total x slots bs (total_at x.table)) (cut (Refused 5) bs)
+  plan_well : walked x ≡ true → plan_by x slots bs ≡ cond (ranked x) (plan_total x slots bs (total_at x.table)) (cut (Err is_open) bs)
   unfolding plan_by
-  plan_well w = ap (λ (b : Bool). cond b (cond (ranked x) (plan_total x slots bs (total_at x.table)) (cut (Refused 5) bs)) (cut (Refused 3) bs)) w
+  plan_well w = ap (λ (b : Bool). cond b (cond (ranked x) (plan_total x slots bs (total_at x.table)) (cut (Err is_open) bs)) (cut (Err not_laid_out) bs)) w
 
-  pub plan_open : walked x ≡ true → ranked x ≡ false → plan_by x slots bs ≡ cut (Refused 5) bs
-  plan_open w r = plan_well w ∙ ap (λ (b : Bool). cond b (plan_total x slots bs (total_at x.table)) (cut (Refused 5) bs)) r
+  pub plan_open : walked x ≡ true → ranked x ≡ false → plan_by x slots bs ≡ cut (Err is_open) bs
+  plan_open w r = plan_well w ∙ ap (λ (b : Bool). cond b (plan_total x slots bs (total_at x.table)) (cut (Err is_open) bs)) r
 
   plan_ranked : walked x ≡ true → ranked x ≡ true → plan_by x slots bs ≡ plan_total x slots bs (total_at x.table)
-  plan_ranked w r = plan_well w ∙ ap (λ (b : Bool). cond b (plan_total x slots bs (total_at x.table)) (cut (Refused 5) bs)) r
+  plan_ranked w r = plan_well w ∙ ap (λ (b : Bool). cond b (plan_total x slots bs (total_at x.table)) (cut (Err is_open) bs)) r
 
-  pub plan_short : walked x ≡ true → ranked x ≡ true → length bs < n → plan_by x slots bs ≡ cut (Refused 11) bs
-  plan_short w r l = plan_ranked w r ∙ ap (λ (b : Bool). cond b (cut (Refused 11) bs) (cut (Made (plan_of (total_at x.table) slots)) (bounds_to x slots bs n))) (lt-ltb (length bs) n l)
+  pub plan_short : walked x ≡ true → ranked x ≡ true → length bs < n → plan_by x slots bs ≡ cut (Err no_room) bs
+  plan_short w r l = plan_ranked w r ∙ ap (λ (b : Bool). cond b (cut (Err no_room) bs) (cut (Ok (plan_of (total_at x.table) slots)) (bounds_to x slots bs n))) (lt-ltb (length bs) n l)
 
-  pub plan_made : walked x ≡ true → ranked x ≡ true → n ≤ length bs → plan_by x slots bs ≡ cut (Made (plan_of (total_at x.table) slots)) (bounds_to x slots bs n)
-  plan_made w r l = plan_ranked w r ∙ ap (λ (b : Bool). cond b (cut (Refused 11) bs) (cut (Made (plan_of (total_at x.table) slots)) (bounds_to x slots bs n))) (le-ltb (length bs) n l)
+  pub plan_made : walked x ≡ true → ranked x ≡ true → n ≤ length bs → plan_by x slots bs ≡ cut (Ok (plan_of (total_at x.table) slots)) (bounds_to x slots bs n)
+  plan_made w r l = plan_ranked w r ∙ ap (λ (b : Bool). cond b (cut (Err no_room) bs) (cut (Ok (plan_of (total_at x.table) slots)) (bounds_to x slots bs n))) (le-ltb (length bs) n l)
 
   -- what holds of each way holds of planning
-  plan_ways : (Q : Cut → Type 0) → ((c : ℕ) → Q (cut (Refused c) bs)) → (n ≤ length bs → Q (cut (Made (plan_of (total_at x.table) slots)) (bounds_to x slots bs n))) → Q (plan_by x slots bs)
+  plan_ways : (Q : Cut → Type 0) → ((c : Refusal) → Q (cut (Err c) bs)) → (n ≤ length bs → Q (cut (Ok (plan_of (total_at x.table) slots)) (bounds_to x slots bs n))) → Q (plan_by x slots bs)
   plan_ways Q f g = go (walked x) refl (ranked x) refl (ltb (length bs) n) refl
     where
       go : (a : Bool) → walked x ≡ a → (b : Bool) → ranked x ≡ b → (c : Bool) → ltb (length bs) n ≡ c → Q (plan_by x slots bs)
-      go false w b r c t = subst Q (sym (plan_bad w)) (f 3)
-      go true w false r c t = subst Q (sym (plan_open w r)) (f 5)
-      go true w true r true t = subst Q (sym (plan_short w r (ltb-true (length bs) n t))) (f 11)
+      go false w b r c t = subst Q (sym (plan_bad w)) (f not_laid_out)
+      go true w false r c t = subst Q (sym (plan_open w r)) (f is_open)
+      go true w true r true t = subst Q (sym (plan_short w r (ltb-true (length bs) n t))) (f no_room)
       go true w true r false t = let l = ltb-false (length bs) n t in subst Q (sym (plan_made w r l)) (g l)
 
   -- ---- on any memory
 
   -- a refusal leaves the boundaries as they were
-  pub plan_refused : (c : ℕ) → (plan_by x slots bs).answer ≡ Refused c → (plan_by x slots bs).bounds ≡ bs
-  plan_refused c = plan_ways (λ (k : Cut). k.answer ≡ Refused c → k.bounds ≡ bs) (λ d e. refl) (λ l e. absurd (let z : ◌≡◌ {A = ℕ} 0 1 = cc in omega arith))
-
-  pub plan_length : length (plan_by x slots bs).bounds ≡ length bs
-  plan_length = plan_ways (λ (k : Cut). length k.bounds ≡ length bs) (λ d. refl) (λ l. bounds_length n)
+  pub plan_refused : (c : Refusal) → (plan_by x slots bs).answer ≡ Err c → (plan_by x slots bs).bounds ≡ bs
+  plan_refused c = plan_ways (λ (k : Cut). k.answer ≡ Err c → k.bounds ≡ bs) (λ d e. refl) (λ l e. absurd cc)
 
   -- spare boundaries stay
   pub plan_spare : (k : ℕ) → n ≤ k → get_or (plan_by x slots bs).bounds k (pos 0) ≡ get_or bs k (pos 0)
@@ -126,28 +125,28 @@ module _ {x : Mem} (slots : ℕ) (bs : List ℤ) (w : Follows x) where
   abbrev t : ℕ
   t = total (holds x)
 
-  answer_open : ranked x ≡ false → plan_answer (state_of x) slots (length bs) ≡ Refused 5
+  answer_open : ranked x ≡ false → plan_answer (state_of x) slots (length bs) ≡ Err is_open
   unfolding plan_answer
-  answer_open r = ap (λ (b : Bool). cond b (cond (ltb (length bs) (parts t slots - 1)) (Refused 11) (Made (plan_of t slots))) (Refused 5)) r
+  answer_open r = ap (λ (b : Bool). cond b (cond (ltb (length bs) (parts t slots - 1)) (Err no_room) (Ok (plan_of t slots))) (Err is_open)) r
 
-  answer_ranked : ranked x ≡ true → plan_answer (state_of x) slots (length bs) ≡ cond (ltb (length bs) (parts t slots - 1)) (Refused 11) (Made (plan_of t slots))
+  answer_ranked : ranked x ≡ true → plan_answer (state_of x) slots (length bs) ≡ cond (ltb (length bs) (parts t slots - 1)) (Err no_room) (Ok (plan_of t slots))
   unfolding plan_answer
-  answer_ranked r = ap (λ (b : Bool). cond b (cond (ltb (length bs) (parts t slots - 1)) (Refused 11) (Made (plan_of t slots))) (Refused 5)) r
+  answer_ranked r = ap (λ (b : Bool). cond b (cond (ltb (length bs) (parts t slots - 1)) (Err no_room) (Ok (plan_of t slots))) (Err is_open)) r
 
   -- a refusal
-  refuses : (c : ℕ) → plan_answer (state_of x) slots (length bs) ≡ Refused c → PlansFor (state_of x) slots bs (Refused c) bs
+  refuses : (c : Refusal) → plan_answer (state_of x) slots (length bs) ≡ Err c → PlansFor (state_of x) slots bs (Err c) bs
   refuses c e = record {
     answer = sym e;
     refused = λ n q. refl;
     same_length = refl;
-    boundaries = λ q. absurd (let z : ◌≡◌ {A = ℕ} 0 1 = cc in omega arith);
+    boundaries = λ q. absurd cc;
     spare = λ k l. refl;
   }
 
-  makes : ranked x ≡ true → parts t slots - 1 ≤ length bs → PlansFor (state_of x) slots bs (Made (plan_of t slots)) (bounds_to x slots bs (parts t slots - 1))
+  makes : ranked x ≡ true → parts t slots - 1 ≤ length bs → PlansFor (state_of x) slots bs (Ok (plan_of t slots)) (bounds_to x slots bs (parts t slots - 1))
   makes r l = record {
-    answer = sym (answer_ranked r ∙ ap (λ (b : Bool). cond b (Refused 11) (Made (plan_of t slots))) (le-ltb (length bs) (parts t slots - 1) l));
-    refused = λ n q. absurd (let z : ◌≡◌ {A = ℕ} 0 1 = cc in omega arith);
+    answer = sym (answer_ranked r ∙ ap (λ (b : Bool). cond b (Err no_room) (Ok (plan_of t slots))) (le-ltb (length bs) (parts t slots - 1) l));
+    refused = λ n q. absurd cc;
     same_length = bounds_length x slots bs (parts t slots - 1);
     boundaries = λ q k m. (boundary_by x (suc k * size slots), bounds_at x slots bs (parts t slots - 1) k (omega arith) l, boundary_least w r (suc k * size slots) (parts_tight t slots (suc k) (omega arith) m));
     spare = λ k m. bounds_past x slots bs (parts t slots - 1) k m;
@@ -160,16 +159,16 @@ module _ {x : Mem} (slots : ℕ) (bs : List ℤ) (w : Follows x) where
       by c e p = subst (λ (k : Cut). PlansFor (state_of x) slots bs k.answer k.bounds) (sym e) p
 
       go : (a : Bool) → ranked x ≡ a → (b : Bool) → ltb (length bs) (parts t slots - 1) ≡ b → PlansFor (state_of x) slots bs (plan_by x slots bs).answer (plan_by x slots bs).bounds
-      go false r b e = by (cut (Refused 5) bs) (plan_open x slots bs (follows_walked w) r) (refuses 5 (answer_open r))
+      go false r b e = by (cut (Err is_open) bs) (plan_open x slots bs (follows_walked w) r) (refuses is_open (answer_open r))
       go true r true e =
           let q = total_rank w r in
-          by (cut (Refused 11) bs) (plan_short x slots bs (follows_walked w) r (rw q (ltb-true (length bs) (parts t slots - 1) e)))
-          (refuses 11 (answer_ranked r ∙ ap (λ (b : Bool). cond b (Refused 11) (Made (plan_of t slots))) e))
+          by (cut (Err no_room) bs) (plan_short x slots bs (follows_walked w) r (rw q (ltb-true (length bs) (parts t slots - 1) e)))
+          (refuses no_room (answer_ranked r ∙ ap (λ (b : Bool). cond b (Err no_room) (Ok (plan_of t slots))) e))
       go true r false e =
           let q = total_rank w r in
           let l = ltb-false (length bs) (parts t slots - 1) e in
-          by (cut (Made (plan_of t slots)) (bounds_to x slots bs (parts t slots - 1)))
-          (plan_made x slots bs (follows_walked w) r (rw q l) ∙ ap (λ (k : ℕ). cut (Made (plan_of k slots)) (bounds_to x slots bs (parts k slots - 1))) q) (makes r l)
+          by (cut (Ok (plan_of t slots)) (bounds_to x slots bs (parts t slots - 1)))
+          (plan_made x slots bs (follows_walked w) r (rw q l) ∙ ap (λ (k : ℕ). cut (Ok (plan_of k slots)) (bounds_to x slots bs (parts k slots - 1))) q) (makes r l)
 
 -- what the code leaves, by what it equals
 pub plans_by : {x : Mem} (slots : ℕ) (bs : List ℤ) (a : Planning) (cs : List ℤ) → cut a cs ≡ plan_by x slots bs → Follows x → PlansFor (state_of x) slots bs a cs

@@ -1,5 +1,5 @@
 -- Planning on any memory: a walk, the room, then a boundary at a time.
-use Rattle.std.specs.Prelude.{◌≡◌, ℕ, zero, suc, ◌+◌, ◌-◌, ◌*◌, ◌/◌, ◌^◌, List, true, cond, ℤ, pos, length, set, leb, ltb, eqb}
+use Rattle.std.specs.Prelude.{◌≡◌, ℕ, zero, suc, ◌+◌, ◌-◌, ◌*◌, ◌/◌, ◌^◌, List, true, cond, ℤ, pos, length, set, leb, ltb, eqb, Ok, Err}
 use Rattle.sums.specs.Cuts.{size, parts}
 use Rattle.document.specs.Plan.{plan_of}
 use Rattle.document.specs.Refusals.{not_laid_out, is_open, no_room}
@@ -8,8 +8,7 @@ use Rattle.layout.specs.Sizes.{head, mode_at, total_at}
 use Rattle.layout.specs.Meaning.{ranked}
 use Rattle.layout.specs.Tests.{Walked, walked}
 use Rattle.ranks.specs.Rank.{rank_in}
-use Rattle.document.specs.declared.plan.Planning.{Planning}
-use Rattle.document.specs.declared.plan.Planning.TheVariants.{Made, Refused}
+use Rattle.document.specs.Results.{Planning}
 
 -- the search narrows lo to hi until one id is left, turns times at most
 unfoldable pub narrow_in : ℕ → (ℕ → ℕ) → ℕ → ℕ → ℕ → ℕ
@@ -45,8 +44,8 @@ abbrev pub cut : Planning → List ℤ → Cut
 cut a bs = record { answer = a; bounds = bs }
 
 abbrev pub plan_total : Mem → ℕ → List ℤ → ℕ → Cut
-plan_total x slots bs t = cond (ltb (length bs) (parts t slots - 1)) (cut (Refused no_room) bs) (cut (Made (plan_of t slots)) (bounds_to x slots bs (parts t slots - 1)))
+plan_total x slots bs t = cond (ltb (length bs) (parts t slots - 1)) (cut (Err no_room) bs) (cut (Ok (plan_of t slots)) (bounds_to x slots bs (parts t slots - 1)))
 
 -- 3, then 5, then 11
 unfoldable pub plan_by : Mem → ℕ → List ℤ → Cut
-plan_by x slots bs = cond (walked x) (cond (eqb (mode_at x.table) 1) (plan_total x slots bs (total_at x.table)) (cut (Refused is_open) bs)) (cut (Refused not_laid_out) bs)
+plan_by x slots bs = cond (walked x) (cond (eqb (mode_at x.table) 1) (plan_total x slots bs (total_at x.table)) (cut (Err is_open) bs)) (cut (Err not_laid_out) bs)

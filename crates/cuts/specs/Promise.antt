@@ -4,8 +4,8 @@ use Rattle.layout.specs.Mem.{Mem}
 use Rattle.layout.specs.Meaning.{state_of}
 use Rattle.layout.specs.Follows.{Follows}
 use Rattle.document.specs.Plan.{PlansFor}
-use Rattle.document.specs.declared.plan.Planning.{Planning}
 use Rattle.cuts.specs.Plan.{cut, plan_by}
+use Rattle.document.specs.Results.{Planning}
 
 -- on memory x planning for so many slots answers a and takes boundaries bs to boundaries cs
 pub record Plans (x : Mem) (slots : ℕ) (bs : List ℤ) (a : Planning) (cs : List ℤ) : Type 0 where

@@ -5,15 +5,16 @@ ghost use Rattle.layout.specs.Mem.{mem};
 ghost use Rattle.cuts.specs.Plan.{Ready, bounds_to};
 ghost use Rattle.cuts.specs.Promise.{Plans};
 
-use crate::{bound, search};
-use document::plan::{Plan, Planning};
-use document::refusal;
+use crate::search;
+use document::plan::Plan;
+use document::refusal::Refusal;
 use intervals::round;
 use layout::head;
 use layout_walk::walk;
-use numbers::order;
+use numbers::element;
 
 // Boundaries 1 to n.
+#[tactic(auto, using(crate::proofs::Plans::bounds_zero, crate::proofs::Plans::bounds_turn))]
 fn fill(
     pages: &[u64],
     rows: &[u32],
@@ -27,12 +28,10 @@ fn fill(
     ensures { let x = mem pages.now rows.now blocks.now table.now in
         bounds.new ≡ bounds_to x slots bounds.old n }
 {
-    let size = order::greatest_of(1, slots);
-    let mut k: u64 = 0;
-    while k < n {
+    let size = slots.max(1);
+    for k in 0..n {
         let b = search::boundary(pages, rows, blocks, table, (k + 1) * size);
-        bound::put(bounds, k, b);
-        k += 1;
+        element::put(bounds, k, b);
     }
 }
 
@@ -44,25 +43,25 @@ pub fn plan(
     table: &[u64],
     slots: u64,
     bounds: &mut [i64],
-) -> Planning
+) -> Result<Plan, Refusal>
     ensures { let x = mem pages.now rows.now blocks.now table.now in
         Plans x slots bounds.old result bounds.new }
 {
     if !walk::walk(pages, rows, blocks, table) {
-        return Planning::Refused(refusal::NOT_LAID_OUT);
+        return Err(Refusal::NotLaidOut);
     }
     if head::mode(table) != head::RANKED {
-        return Planning::Refused(refusal::IS_OPEN);
+        return Err(Refusal::IsOpen);
     }
     let total = head::total(table);
     let n = round::parts(total, slots);
     if (bounds.len() as u64) < n - 1 {
-        return Planning::Refused(refusal::NO_ROOM);
+        return Err(Refusal::NoRoom);
     }
     fill(pages, rows, blocks, table, slots, n - 1, bounds);
-    Planning::Made(Plan {
+    Ok(Plan {
         total,
-        slots: order::greatest_of(1, slots),
+        slots: slots.max(1),
         partitions: n,
     })
 }

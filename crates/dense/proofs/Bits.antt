@@ -7,20 +7,20 @@ use Prim.Native.Nat.{ℕ, zero, suc, ◌+◌, ◌*◌, ◌/◌, ◌%◌, ◌^◌
 use native.Mathlib.Nat.{mod-lt, zero-div}
 use native.Mathlib.Omega.{arith}
 use lib.Bits.{bit_or, or_zero_r}
-use lib.Dec.{eqb, ltb}
+use lib.Dec.{eqb}
 use lib.ListN.{length, get_or, set, replicate, length-set, get_or-eq_default}
 use lib.Seq.{set_out, get_or-set_same, get_or-set_other}
-use borrow.Author.Tests.{ltb-true, ltb-false, eqb-true, eqb-false, eq-eqb, ne_eqb}
+use borrow.Author.Tests.{eqb-true, eqb-false, eq-eqb, ne_eqb}
+use Rattle.std.proofs.lemmas.Nat.Bits.{bit_at-lt, bit_at_or, bit_at-pow_same, bit_at-pow_other}
 use Rattle.sums.specs.Rules.{Decides}
 use Rattle.sums.proofs.Sums.{last_or}
 use Rattle.dense.specs.Bits.{digit, bit, is_set, with_bit, or_words, with_row}
-use Rattle.dense.proofs.Digits.{digit_lt, digit_or, digit_pow_same, digit_pow_other}
 
 -- ---- where a bit stands
 
 pub bit_lt : (ws : List ℕ) (o : ℕ) → bit ws o < 2
 unfolding bit
-bit_lt ws o = digit_lt (get_or ws (o / 64) 0) (o % 64)
+bit_lt ws o = bit_at-lt (get_or ws (o / 64) 0) (o % 64)
 
 -- digit b of word i
 pub bit_at : (ws : List ℕ) (i b : ℕ) → b < 64 → bit ws (64 * i + b) ≡ digit (get_or ws i 0) b
@@ -36,11 +36,7 @@ bit_past ws o l = ap (λ (w : ℕ). digit w (o % 64)) (get_or-eq_default ws 0 (o
 
 -- a set bit lies in the words
 pub bit_inside : (ws : List ℕ) (o : ℕ) → bit ws o ≡ 1 → o < 64 * length ws
-bit_inside ws o e = go (ltb o (64 * length ws)) refl
-  where
-    go : (t : Bool) → ltb o (64 * length ws) ≡ t → o < 64 * length ws
-    go true h = ltb-true o (64 * length ws) h
-    go false h = let z = bit_past ws o (ltb-false o (64 * length ws) h) in absurd (omega arith)
+bit_inside ws o e = grind (arith, bit_past ws o)
 
 -- ---- yes or no
 
@@ -78,8 +74,8 @@ unfolding bit
 with_word ws o j v n l p true e =
     let s : j / 64 ≡ o / 64 = eqb-true (j / 64) (o / 64) e in
     let w = get_or ws (o / 64) 0 in
-    let z = digit_pow_other (o % 64) (j % 64) (λ (h : j % 64 ≡ o % 64). n (omega arith)) in
-    let d = digit_or w (2 ^ (o % 64)) (j % 64) in
+    let z = bit_at-pow_other (o % 64) (j % 64) (λ (h : j % 64 ≡ o % 64). n (omega arith)) in
+    let d = bit_at_or w (2 ^ (o % 64)) (j % 64) in
     bit_set_same ws (o / 64) v j l s
     ∙ (ap (λ (x : ℕ). digit x (j % 64)) p
     ∙ ((let m : digit (bit_or w (2 ^ (o % 64))) (j % 64) ≡ digit w (j % 64) = omega arith in m)
@@ -100,9 +96,9 @@ module _ (ws : List ℕ) (o : ℕ) where
   unfolding with_bit
   bit_with_same l =
       let v = bit_or (get_or ws (o / 64) 0) (2 ^ (o % 64)) in
-      let d = digit_or (get_or ws (o / 64) 0) (2 ^ (o % 64)) (o % 64) in
-      let a = digit_lt (get_or ws (o / 64) 0) (o % 64) in
-      let p = digit_pow_same (o % 64) in
+      let d = bit_at_or (get_or ws (o / 64) 0) (2 ^ (o % 64)) (o % 64) in
+      let a = bit_at-lt (get_or ws (o / 64) 0) (o % 64) in
+      let p = bit_at-pow_same (o % 64) in
       bit_set_same ws (o / 64) v o (omega arith) refl ∙ (omega arith)
 
   with_inside : (j : ℕ) → j ≢ o → o < 64 * length ws → bit (with_bit ws o) j ≡ bit ws j
@@ -110,19 +106,11 @@ module _ (ws : List ℕ) (o : ℕ) where
   with_inside j n l = with_word ws o j (bit_or (get_or ws (o / 64) 0) (2 ^ (o % 64))) n (omega arith) refl (eqb (j / 64) (o / 64)) refl
 
   pub bit_with_other : (j : ℕ) → j ≢ o → bit (with_bit ws o) j ≡ bit ws j
-  bit_with_other j n = go (ltb o (64 * length ws)) refl
-    where
-      go : (t : Bool) → ltb o (64 * length ws) ≡ t → bit (with_bit ws o) j ≡ bit ws j
-      go true h = with_inside j n (ltb-true o (64 * length ws) h)
-      go false h = ap (λ (l : List ℕ). bit l j) (with_past (ltb-false o (64 * length ws) h))
+  bit_with_other j n = grind (arith, with_inside j n, with_past)
 
   -- no bit is lost
   pub bit_with_kept : (j : ℕ) → bit ws j ≡ 1 → bit (with_bit ws o) j ≡ 1
-  bit_with_kept j e = go (eqb j o) refl
-    where
-      go : (t : Bool) → eqb j o ≡ t → bit (with_bit ws o) j ≡ 1
-      go true h = let s = eqb-true j o h in ap (bit (with_bit ws o)) s ∙ bit_with_same (let l = bit_inside ws j e in omega arith)
-      go false h = bit_with_other j (eqb-false j o h) ∙ e
+  bit_with_kept j e = grind (arith, bit_inside ws j, bit_with_same, bit_with_other j)
 
 -- ---- a union
 
@@ -142,7 +130,7 @@ get_d_or (x ∷ xs) (y ∷ ys) (suc i) l = get_d_or xs ys i (omega arith)
 -- set exactly where either was
 pub bit_or_law : (xs ys : List ℕ) (o : ℕ) → o < 64 * length xs → bit (or_words xs ys) o ≡ max (bit xs o) (bit ys o)
 unfolding bit
-bit_or_law xs ys o l = ap (λ (w : ℕ). digit w (o % 64)) (get_d_or xs ys (o / 64) (omega arith)) ∙ digit_or (get_or xs (o / 64) 0) (get_or ys (o / 64) 0) (o % 64)
+bit_or_law xs ys o l = ap (λ (w : ℕ). digit w (o % 64)) (get_d_or xs ys (o / 64) (omega arith)) ∙ bit_at_or (get_or xs (o / 64) 0) (get_or ys (o / 64) 0) (o % 64)
 
 -- ---- nothing set
 

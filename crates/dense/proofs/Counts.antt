@@ -9,9 +9,13 @@ use native.Mathlib.Omega.{arith}
 use lib.Count.{ones}
 use lib.Dec.{eqb, ltb}
 use lib.Pow.{shr_lt}
-use lib.ListN.{length, get_or, replicate}
+use lib.ListN.{length, get_or, replicate, take}
+use lib.Seq.{take_all}
 use mir.Val.{bool_byte}
-use borrow.Author.Tests.{ltb-true, ltb-false, lt-ltb, eqb-true, eqb-false}
+use borrow.Author.Tests.{ltb-true, ltb-false, lt-ltb}
+use Rattle.std.specs.List.{sum_by}
+use Rattle.std.proofs.lemmas.Bool.Decides.{nat_tests}
+use Rattle.std.proofs.lemmas.List.Sums.{sum_by_more}
 use Rattle.sums.specs.Sums.{sum_to}
 use Rattle.sums.specs.Ids.{count}
 use Rattle.sums.specs.Rules.{Decides}
@@ -59,12 +63,7 @@ module _ (ws : List ℕ) where
   -- the same sum counts the plain set of offsets
   pub bits_count : (n : ℕ) → bits_to ws n ≡ count (is_set ws) n
   unfolding bits_to count is_set
-  bits_count n = sum_ext (bit ws) (λ (j : ℕ). bool_byte (eqb (bit ws j) 1)) n (λ j l. byte (bit ws j) (bit_lt ws j))
-    where
-      byte : (d : ℕ) → d < 2 → d ≡ bool_byte (eqb d 1)
-      byte zero h = refl
-      byte (suc zero) h = refl
-      byte (suc (suc d)) h = absurd (omega arith)
+  bits_count n = sum_ext (bit ws) (λ (j : ℕ). bool_byte (eqb (bit ws j) 1)) n (λ j l. let h = bit_lt ws j in grind (arith, nat_tests))
 
   -- ---- by words
 
@@ -97,11 +96,16 @@ module _ (ws : List ℕ) where
       omega (arith, bits_high i 0 (omega arith) h, ap (bits_to ws) q, ap ones (div-one (get_or ws i 0)))
 
   -- the word counts add up to the count at each multiple of 64
-  pub bits_words : (n : ℕ) → ((i : ℕ) → i < n → get_or ws i 0 < 2 ^ 64) → bits_to ws (64 * n) ≡ sum_to (λ (i : ℕ). ones (get_or ws i 0)) n
-  bits_words zero h = bits_zero ∙ sym (sum_zero (λ (i : ℕ). ones (get_or ws i 0)))
-  bits_words (suc n) h =
+  pub ones_front : (n : ℕ) → n ≤ length ws → ((i : ℕ) → i < n → get_or ws i 0 < 2 ^ 64) → sum_by ones (take n ws) ≡ bits_to ws (64 * n)
+  ones_front zero l h = sym bits_zero
+  ones_front (suc n) l h =
       let p : 64 * suc n ≡ 64 * (n + 1) = omega arith in
-      omega (arith, ap (bits_to ws) p, bits_word n (h n (omega arith)), bits_words n (λ i l. h i (omega arith)), sum_suc (λ (i : ℕ). ones (get_or ws i 0)) n)
+      let q : suc n ≡ n + 1 = omega arith in
+      omega (arith, ap (bits_to ws) p, ap (λ (i : ℕ). sum_by ones (take i ws)) q, sum_by_more ones ws n 0 (omega arith), bits_word n (h n (omega arith)), ones_front n (omega arith) (λ i l. h i (omega arith)))
+
+  -- and those of all words to the count of all bits
+  pub ones_all : ((i : ℕ) → i < length ws → get_or ws i 0 < 2 ^ 64) → sum_by ones ws ≡ bits_to ws (64 * length ws)
+  ones_all h = ap (sum_by ones) (sym (take_all (length ws) ws (omega arith))) ∙ ones_front (length ws) (omega arith) h
 
   -- ---- over a range
 
@@ -121,20 +125,15 @@ module _ (ws : List ℕ) where
   none_between a b h j l g = omega (arith, bits_mono a j l, bits_suc j, bits_mono (suc j) b g)
 
   -- and counts that differ have one
-  some_at : (a b : ℕ) → (t : Bool) → eqb (bit ws b) 0 ≡ t → bits_to ws a < bits_to ws (suc b) → (bits_to ws a < bits_to ws b → (o : ℕ) × (a ≤ o) × (o < b) × (bit ws o ≡ 1)) → (o : ℕ) × (a ≤ o) × (o < suc b) × (bit ws o ≡ 1)
-  some_at a b true e h r = let z = eqb-true (bit ws b) 0 e in let f = r (omega (arith, bits_suc b)) in let l = f.2 in (f.0, f.1, omega arith, f.3)
-  some_at a b false e h r = (b, least (ltb b a) refl, omega arith, one (eqb-false (bit ws b) 0 e) (bit_lt ws b))
-    where
-      one : (bit ws b ≡ 0 → ⊥) → bit ws b < 2 → bit ws b ≡ 1
-      one n l = omega arith
-
-      least : (t : Bool) → ltb b a ≡ t → a ≤ b
-      least true g = let m = bits_mono (suc b) a (ltb-true b a g) in absurd (omega arith)
-      least false g = ltb-false b a g
-
   pub some_between : (a b : ℕ) → bits_to ws a < bits_to ws b → (o : ℕ) × (a ≤ o) × (o < b) × (bit ws o ≡ 1)
   some_between a zero h = absurd (omega (arith, bits_zero))
-  some_between a (suc b) h = some_at a b (eqb (bit ws b) 0) refl h (some_between a b)
+  some_between a (suc b) h = go (ltb (bits_to ws a) (bits_to ws b)) refl (some_between a b)
+    where
+      go : (t : Bool) → ltb (bits_to ws a) (bits_to ws b) ≡ t → (bits_to ws a < bits_to ws b → (o : ℕ) × (a ≤ o) × (o < b) × (bit ws o ≡ 1)) → (o : ℕ) × (a ≤ o) × (o < suc b) × (bit ws o ≡ 1)
+      go true e r = let f = r (ltb-true (bits_to ws a) (bits_to ws b) e) in let l = f.2 in (f.0, f.1, omega arith, f.3)
+      go false e r =
+          let l = ltb-false (bits_to ws a) (bits_to ws b) e in
+          (b, grind (arith, bits_mono (suc b) a), omega arith, omega (arith, bits_suc b, bit_lt ws b))
 
   -- `any_in` says yes exactly when some bit lies in the range
   pub any_decides : (lo hi : ℕ) → Decides (any_in ws lo hi) ((o : ℕ) × (lo ≤ o) × (o ≤ hi) × (bit ws o ≡ 1))

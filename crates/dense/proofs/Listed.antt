@@ -1,5 +1,5 @@
 -- Set bits as ids, word by word: a turn of each loop that writes them. Assumes nothing.
-use mathlib.Core.Path.{◌≡◌, refl, sym, ap, ap₂, ◌∙◌, subst}
+use mathlib.Core.Path.{◌≡◌, refl, sym, ap, ap₂, ◌∙◌}
 use mathlib.Core.Bool.{Bool, true, false, cond}
 use mathlib.Core.List.{List, [], ◌∷◌, ◌++◌}
 use Prim.Native.Nat.{ℕ, zero, suc, ◌+◌, ◌-◌, ◌*◌, ◌/◌, ◌%◌, ◌^◌, ◌≤◌, ◌<◌}
@@ -16,10 +16,10 @@ use mir.Facts.{to_z_pos}
 use borrow.Author.Tests.{ltb-true, ltb-false}
 use Rattle.sums.specs.Ids.{Ids}
 use Rattle.sums.specs.Members.{members_in, plus, fill, fill_to}
-use Rattle.sums.proofs.Filling.{members_yes, members_no, Left, left_start, left_same, left_put, left_then, left_full, left_none}
+use Rattle.sums.proofs.Filling.{members_yes, members_no, Left, left_start, left_same, left_put, left_then, left_none}
 use Rattle.dense.specs.Bits.{digit, bit, is_set}
 use Rattle.dense.proofs.Bits.{bit_at, one_is_set, zero_clear}
-use Rattle.dense.proofs.Lowest.{lowest_lt, lowest_one, lowest_none, cleared_low, cleared_here, cleared_high, cleared_less, kept_low, kept_high}
+use Rattle.dense.proofs.Lowest.{lowest_lt, lowest_one, lowest_none, cleared_low, cleared_here, cleared_high, kept_low, kept_high}
 
 -- ---- members of a run of ids
 
@@ -123,39 +123,21 @@ bits_next w some fits =
         let s : j ≡ count_trailing_zeros 64 w + (1 + d) = omega arith in
         ap (digit (bit_and w (w - 1))) s ∙ (cleared_high w some fits d ∙ ap (digit w) (sym s))
 
--- what is left of the word's bits is left to write
-pub record Clearing (w at : ℕ) (first : List ℤ) (k : ℕ) (out : List ℤ) (rest n : ℕ) : Type 0 where
-  pub left : Left first k (plus at (set_bits w)) out n (plus at (set_bits rest))
-  pub fits : rest < 2 ^ 64
+-- the lowest of the bits that are left is written
+pub bit_turn : (first : List ℤ) (k : ℕ) (all : List ℕ) (out : List ℤ) (n at rest t : ℕ) → Left first k all out n (plus at (set_bits rest))
+    → t ≡ count_trailing_zeros 64 rest → (rest ≡ 0 → ⊥) → rest < 2 ^ 64 → at + 64 ≤ 2 ^ 63 → n < length out
+    → Left first k all (set out n (to_z w64 (at + t))) (n + 1) (plus at (set_bits (bit_and rest (rest - 1))))
+unfolding plus
+bit_turn first k all out n at rest t h e d f g l =
+    let b = lowest_lt rest (omega arith) f in
+    let s : plus at (set_bits rest) ≡ (at + t) ∷ plus at (set_bits (bit_and rest (rest - 1))) =
+    ap (plus at) (bits_next rest (omega arith) f) ∙ ap (λ (x : ℕ). (at + x) ∷ plus at (set_bits (bit_and rest (rest - 1)))) (sym e) in
+    rw (to_z_pos w64 {n = at + t} (omega arith)) (left_put first k all out n (at + t) _ (left_same first k all out n _ _ h s) l)
 
-module _ (w at : ℕ) (first : List ℤ) (k : ℕ) where
-  pub clearing_start : w < 2 ^ 64 → k ≤ length first → Clearing w at first k first w k
-  clearing_start f l = record { left = left_start first k (plus at (set_bits w)) l; fits = f }
-
-  module _ (out : List ℤ) (rest n : ℕ) (h : Clearing w at first k out rest n) where
-    next : 0 < rest → plus at (set_bits rest) ≡ (at + count_trailing_zeros 64 rest) ∷ plus at (set_bits (bit_and rest (rest - 1)))
-    unfolding plus
-    next some = ap (plus at) (bits_next rest some h.fits)
-
-    pub clearing_lt : (rest ≡ 0 → ⊥) → at + 64 ≤ 2 ^ 63 → at + count_trailing_zeros 64 rest < 2 ^ 63
-    clearing_lt d f = let l = lowest_lt rest (omega arith) h.fits in omega arith
-
-    pub clearing_turn : (rest ≡ 0 → ⊥) → at + 64 ≤ 2 ^ 63 → n < length out → Clearing w at first k (set out n (to_z w64 (at + count_trailing_zeros 64 rest))) (bit_and rest (rest - 1)) (n + 1)
-    clearing_turn d f m =
-        let p = left_put first k (plus at (set_bits w)) out n (at + count_trailing_zeros 64 rest) (plus at (set_bits (bit_and rest (rest - 1)))) (left_same first k (plus at (set_bits w)) out n _ _ h.left (next (omega arith))) m in
-        let g = h.fits in
-        record {
-          left = subst (λ (z : ℤ). Left first k (plus at (set_bits w)) (set out n z) (n + 1) (plus at (set_bits (bit_and rest (rest - 1))))) (sym (to_z_pos w64 (clearing_lt d f))) p;
-          fits = omega (arith, cleared_less rest (omega arith) g);
-        }
-
-    -- the word has no more, or the record no place
-    pub clearing_end : rest ≡ 0 → (out ≡ fill first k (plus at (set_bits w))) × (n ≡ fill_to first k (plus at (set_bits w)))
-    unfolding plus
-    clearing_end e = left_none first k (plus at (set_bits w)) out n (left_same first k (plus at (set_bits w)) out n _ _ h.left (ap (λ (r : ℕ). plus at (set_bits r)) e ∙ ap (plus at) bits_none))
-
-    pub clearing_full : length out ≤ n → (out ≡ fill first k (plus at (set_bits w))) × (n ≡ fill_to first k (plus at (set_bits w)))
-    clearing_full l = left_full first k (plus at (set_bits w)) out n (plus at (set_bits rest)) h.left l
+-- no bit is left
+pub bit_end : (first : List ℤ) (k : ℕ) (all : List ℕ) (out : List ℤ) (n at rest : ℕ) → Left first k all out n (plus at (set_bits rest)) → rest ≡ 0 → (out ≡ fill first k all) × (n ≡ fill_to first k all)
+unfolding plus
+bit_end first k all out n at rest h e = left_none first k all out n (left_same first k all out n _ _ h (ap (λ (r : ℕ). plus at (set_bits r)) e ∙ ap (plus at) bits_none))
 
 -- ---- words
 
@@ -216,31 +198,14 @@ asked_first ws base from first k out n l f r h =
         let e : j ≡ from % 64 + d = omega arith in
         ap (digit (above ws from)) e ∙ (kept_high (get_or ws (from / 64) 0) (from % 64) f d ∙ ap (digit (get_or ws (from / 64) 0)) (sym e))
 
--- the bits from word i on are left of those from word a on
-pub record Listing (ws : List ℕ) (base a : ℕ) (first : List ℤ) (k : ℕ) (out : List ℤ) (n i : ℕ) : Type 0 where
-  pub left : Left first k (asked ws base (64 * a)) out n (asked ws base (64 * i))
-  pub inside : i ≤ length ws
+module _ (ws : List ℕ) (base : ℕ) (first : List ℤ) (k : ℕ) (all : List ℕ) (out : List ℤ) (n i : ℕ) (h : Left first k all out n (asked ws base (64 * i))) where
+  pub asked_turn : (next : List ℤ) (m : ℕ) → i < length ws
+      → (next ≡ fill out n (plus (base + i * 64) (set_bits (get_or ws i 0)))) × (m ≡ fill_to out n (plus (base + i * 64) (set_bits (get_or ws i 0))))
+      → Left first k all next m (asked ws base (64 * (i + 1)))
+  asked_turn next m l g =
+      left_then first k all out n (plus (base + i * 64) (set_bits (get_or ws i 0))) (asked ws base (64 * (i + 1))) next m
+      (left_same first k all out n _ _ h (asked_word ws base i (64 * i) (get_or ws i 0) l (omega arith) (omega arith) (λ j u v. absurd (omega arith)) (λ j u v. refl)))
+      g.0 g.1
 
-module _ (ws : List ℕ) (base a : ℕ) (first : List ℤ) (k : ℕ) where
-  pub listing_start : a ≤ length ws → k ≤ length first → Listing ws base a first k first k a
-  listing_start l r = record { left = left_start first k (asked ws base (64 * a)) r; inside = l }
-
-  module _ (out : List ℤ) (n i : ℕ) (h : Listing ws base a first k out n i) where
-    pub listing_turn : (next : List ℤ) (m : ℕ) → i < length ws → (next ≡ fill out n (plus (base + i * 64) (set_bits (get_or ws i 0)))) × (m ≡ fill_to out n (plus (base + i * 64) (set_bits (get_or ws i 0)))) → Listing ws base a first k next m (i + 1)
-    listing_turn next m l g = record {
-      left = left_then first k (asked ws base (64 * a)) out n (plus (base + i * 64) (set_bits (get_or ws i 0))) (asked ws base (64 * (i + 1))) next m
-          (left_same first k (asked ws base (64 * a)) out n _ _ h.left (asked_word ws base i (64 * i) (get_or ws i 0) l (omega arith) (omega arith) (λ j u v. absurd (omega arith)) (λ j u v. refl)))
-          g.0 g.1;
-      inside = omega arith;
-    }
-
-    -- the loop's end: no word is left, or no place. `all` is what the loop was to end
-    pub listing_end : (all : List ℕ) (old : List ℤ) (j : ℕ) → Left old j all first k (asked ws base (64 * a)) → length ws ≤ i → (out ≡ fill old j all) × (n ≡ fill_to old j all)
-    listing_end all old j g l =
-        let w = left_none first k (asked ws base (64 * a)) out n (left_same first k (asked ws base (64 * a)) out n _ _ h.left (asked_past ws base (64 * i) (omega arith))) in
-        (w.0 ∙ g.same, w.1 ∙ g.end)
-
-    pub listing_full : (all : List ℕ) (old : List ℤ) (j : ℕ) → Left old j all first k (asked ws base (64 * a)) → length out ≤ n → (out ≡ fill old j all) × (n ≡ fill_to old j all)
-    listing_full all old j g l =
-        let w = left_full first k (asked ws base (64 * a)) out n (asked ws base (64 * i)) h.left l in
-        (w.0 ∙ g.same, w.1 ∙ g.end)
+  pub asked_end : length ws ≤ i → (out ≡ fill first k all) × (n ≡ fill_to first k all)
+  asked_end l = left_none first k all out n (left_same first k all out n _ _ h (asked_past ws base (64 * i) (omega arith)))

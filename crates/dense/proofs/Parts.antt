@@ -12,7 +12,7 @@ use Rattle.dense.proofs.Counts.{bits_split}
 
 -- the part of k words from word a on
 module _ (a k : ℕ) (ws : List ℕ) where
-  word_part : (i : ℕ) → i < k → get_or (take k (drop a ws)) i 0 ≡ get_or ws (a + i) 0
+  pub word_part : (i : ℕ) → i < k → get_or (take k (drop a ws)) i 0 ≡ get_or ws (a + i) 0
   word_part i l = get_or-take k (drop a ws) i 0 l ∙ get_or-drop a ws i 0
 
   pub bit_part : (o : ℕ) → o < 64 * k → bit (take k (drop a ws)) o ≡ bit ws (64 * a + o)

@@ -25,7 +25,7 @@ pub fn insert(words: &mut [u64], off: u64) -> bool
     let i = (off / 64) as usize;
     let b = off % 64;
     let w = words[i];
-    words[i] = w | (1 << b);
+    words[i] |= 1 << b;
     (w >> b) % 2 != 1
 }
 
@@ -34,12 +34,9 @@ pub fn write_row(words: &mut [u64], row: &[u32], len: usize, s: u64)
     requires { (len ≤ length row.now) × (s < 64) × (2 ^ s ≤ 64 * length words.old) }
     ensures { words.new ≡ with_row words.old row.now (2 ^ s) len }
 {
-    let mut i: usize = 0;
-    while i < len {
-        let off = (row[i] as u64) % (1 << s);
-        let k = (off / 64) as usize;
-        words[k] = words[k] | (1 << (off % 64));
-        i += 1;
+    for off in &row[..len] {
+        let off = u64::from(*off) % (1 << s);
+        words[(off / 64) as usize] |= 1 << (off % 64);
     }
 }
 
@@ -57,15 +54,7 @@ pub fn any_in(words: &[u64], lo: u64, hi: u64) -> bool
     if first == last {
         return above << (63 - (hi - lo)) != 0;
     }
-    if above != 0 {
-        return true;
-    }
-    let mut i = first + 1;
-    while i < last {
-        if words[i] != 0 {
-            return true;
-        }
-        i += 1;
-    }
-    words[last] << (63 - hi % 64) != 0
+    above != 0
+        || words[first + 1..last].iter().any(|w| *w != 0)
+        || words[last] << (63 - hi % 64) != 0
 }

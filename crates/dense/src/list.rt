@@ -11,9 +11,10 @@ fn word(w: u64, at: u64, out: &mut [i64], k: usize) -> usize
 {
     let mut rest = w;
     let mut n = k;
+    // A `while`: as a `for` over the places it was slower over empty words.
     while rest != 0 && n < out.len() {
-        out[n] = (at + u64::trailing_zeros(rest) as u64) as i64;
-        rest = rest & (rest - 1);
+        out[n] = (at + u64::from(rest.trailing_zeros())) as i64;
+        rest &= rest - 1;
         n += 1;
     }
     n
@@ -36,10 +37,11 @@ pub fn ids(words: &[u64], from: u64, base: u64, out: &mut [i64], k: usize) -> us
         out,
         k,
     );
-    let mut i = first + 1;
-    while i < words.len() && n < out.len() {
+    for i in first + 1..words.len() {
+        if n == out.len() {
+            break;
+        }
         n = word(words[i], base + (i as u64) * 64, out, n);
-        i += 1;
     }
     n
 }

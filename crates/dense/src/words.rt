@@ -7,13 +7,7 @@ pub fn count(words: &[u64]) -> u64
     requires { length words.now < 2 ^ 58 }
     ensures { result ≡ bits_to words.now (64 * length words.now) }
 {
-    let mut n: u64 = 0;
-    let mut i: usize = 0;
-    while i < words.len() {
-        n += u64::count_ones(words[i]) as u64;
-        i += 1;
-    }
-    n
+    words.iter().map(|w| u64::from(w.count_ones())).sum()
 }
 
 // The union: a bit of `dst` is set after exactly where either was.
@@ -21,10 +15,9 @@ pub fn or_into(dst: &mut [u64], src: &[u64])
     requires { length dst.old ≤ length src.now }
     ensures { dst.new ≡ or_words dst.old src.now }
 {
-    let mut i: usize = 0;
-    while i < dst.len() {
-        dst[i] = dst[i] | src[i];
-        i += 1;
+    // By index: of places lent through a `zip` a proof learns nothing.
+    for (i, word) in dst.iter_mut().enumerate() {
+        *word |= src[i];
     }
 }
 
@@ -33,9 +26,5 @@ pub fn copy(dst: &mut [u64], src: &[u64])
     requires { length dst.old ≡ length src.now }
     ensures { dst.new ≡ src.now }
 {
-    let mut i: usize = 0;
-    while i < dst.len() {
-        dst[i] = src[i];
-        i += 1;
-    }
+    dst.copy_from_slice(src);
 }

@@ -12,35 +12,31 @@ use Rattle.document.specs.Prepare.{prepare_answer, readied}
 use Rattle.document.specs.Calls.{Call, insert, put, prepared, prepare, rank_up, leave, whether, that, many, maybe, Refuses}
 use Rattle.document.specs.Calls.{Ask, get, range_test, chunk_id, len, is_empty, has_any, chunk_count, iterate, rank_of, rank_if_set, total_count, check}
 use Rattle.document.specs.Answers.{rank_up_answer, leave_answer, answer, in_mode, after, chunks_in, rank_answer, rank_if_answer, total_answer, reply}
-use Rattle.document.specs.declared.answer.Outcome.{Outcome}
-use Rattle.document.specs.declared.answer.Outcome.TheVariants as outcome
-use Rattle.document.specs.declared.answer.Truth.{Truth}
-use Rattle.document.specs.declared.answer.Truth.TheVariants as truth
-use Rattle.document.specs.declared.answer.Amount.TheVariants as amount
-use Rattle.document.specs.declared.answer.Perhaps.TheVariants as perhaps
+use Rattle.document.specs.Results.{Outcome, Truth}
+use Rattle.std.specs.Prelude.{Err, Ok}
 
 -- ---- a refused call leaves the set as it was
 
 inserted_same : (q : State) (z : ℤ) (a : Truth) (n : ℕ) → Refuses (whether a) n → inserted q z a ≡ q
-inserted_same q z (truth.Is b) n r = absurd r
-inserted_same q z (truth.Refused k) n r = refl
+inserted_same q z (Ok b) n r = absurd r
+inserted_same q z (Err k) n r = refl
 
 put_same : (q : State) (z : ℤ) (a : Truth) (n : ℕ) → Refuses (that (done a)) n → inserted q z a ≡ q
-put_same q z (truth.Is b) n r = absurd r
-put_same q z (truth.Refused k) n r = refl
+put_same q z (Ok b) n r = absurd r
+put_same q z (Err k) n r = refl
 
 readied_same : (q : State) (z : ℤ) (a : Outcome) (n : ℕ) → Refuses (that a) n → readied q z a ≡ q
-readied_same q z outcome.Done n r = absurd r
-readied_same q z (outcome.Refused k) n r = refl
+readied_same q z (Ok tt) n r = absurd r
+readied_same q z (Err k) n r = refl
 
 in_mode_law : (q : State) (b : Bool) → q.mode ≡ b → in_mode q b ≡ q
 in_mode_law q b e = ap (λ (m : Bool). in_mode q m) (let f : b ≡ q.mode = cc in f)
 
-ranked_same : (q : State) (b : Bool) → q.mode ≡ b → (n : ℕ) → Refuses (that (cond b (outcome.Refused is_ranked) outcome.Done)) n → in_mode q true ≡ q
+ranked_same : (q : State) (b : Bool) → q.mode ≡ b → (n : ℕ) → Refuses (that (cond b (Err is_ranked) (Ok tt))) n → in_mode q true ≡ q
 ranked_same q true e n r = in_mode_law q true e
 ranked_same q false e n r = absurd r
 
-left_same : (q : State) (b : Bool) → q.mode ≡ b → (n : ℕ) → Refuses (that (cond b outcome.Done (outcome.Refused is_open))) n → in_mode q false ≡ q
+left_same : (q : State) (b : Bool) → q.mode ≡ b → (n : ℕ) → Refuses (that (cond b (Ok tt) (Err is_open))) n → in_mode q false ≡ q
 left_same q true e n r = absurd r
 left_same q false e n r = in_mode_law q false e
 
@@ -59,7 +55,7 @@ or_true : (b : Bool) → (b || true) ≡ true
 or_true true = refl
 or_true false = refl
 
-pub inserted_member : (q : State) (n : ℕ) (b : Bool) → (inserted q (pos n) (truth.Is b)).members n ≡ true
+pub inserted_member : (q : State) (n : ℕ) (b : Bool) → (inserted q (pos n) (Ok b)).members n ≡ true
 inserted_member q n b = ap (λ (c : Bool). q.members n || c) (eq-eqb n n refl) ∙ or_true (q.members n)
 
 -- ---- modes
@@ -72,40 +68,40 @@ leave_mode q = refl
 
 module _ (q : State) (e : q.mode ≡ true) where
   -- insert of either sort, preparation, ranking: 4 on a ranked set
-  pub ranked_insert : (z : ℤ) → answer q (insert z) ≡ whether (truth.Refused is_ranked)
+  pub ranked_insert : (z : ℤ) → answer q (insert z) ≡ whether (Err is_ranked)
   unfolding new_answer
   ranked_insert (pos n) = rw e
   ranked_insert (negsuc n) = rw e
 
-  pub ranked_prepared : (z : ℤ) → answer q (prepared z) ≡ whether (truth.Refused is_ranked)
+  pub ranked_prepared : (z : ℤ) → answer q (prepared z) ≡ whether (Err is_ranked)
   unfolding prepared_answer
   ranked_prepared (pos n) = rw e
   ranked_prepared (negsuc n) = rw e
 
-  pub ranked_prepare : (z : ℤ) → answer q (prepare z) ≡ that (outcome.Refused is_ranked)
+  pub ranked_prepare : (z : ℤ) → answer q (prepare z) ≡ that (Err is_ranked)
   unfolding prepare_answer
   ranked_prepare (pos n) = rw e
   ranked_prepare (negsuc n) = rw e
 
-  pub ranked_again : answer q rank_up ≡ that (outcome.Refused is_ranked)
+  pub ranked_again : answer q rank_up ≡ that (Err is_ranked)
   unfolding rank_up_answer
   ranked_again = rw e
 
 module _ (q : State) (e : q.mode ≡ false) where
   -- ranks and leaving: 5 on an open set
-  pub open_rank : (z : ℤ) → reply q (rank_of z) ≡ many (amount.Refused is_open)
+  pub open_rank : (z : ℤ) → reply q (rank_of z) ≡ many (Err is_open)
   unfolding rank_answer
   open_rank z = rw e
 
-  pub open_rank_if : (z : ℤ) → reply q (rank_if_set z) ≡ maybe (perhaps.Refused is_open)
+  pub open_rank_if : (z : ℤ) → reply q (rank_if_set z) ≡ maybe (Err is_open)
   unfolding rank_if_answer
   open_rank_if z = rw e
 
-  pub open_total : reply q total_count ≡ many (amount.Refused is_open)
+  pub open_total : reply q total_count ≡ many (Err is_open)
   unfolding total_answer
   open_total = rw e
 
-  pub open_leave : answer q leave ≡ that (outcome.Refused is_open)
+  pub open_leave : answer q leave ≡ that (Err is_open)
   unfolding leave_answer
   open_leave = rw e
 

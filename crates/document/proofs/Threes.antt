@@ -1,5 +1,5 @@
 -- No answer that document 01 gives to a call on a set is a 3. Assumes nothing.
-use mathlib.Core.Path.{◌≡◌, refl, sym, subst}
+use mathlib.Core.Path.{◌≡◌, refl, sym, ap, subst}
 use mathlib.Core.Bool.{Bool, true, false, cond}
 use Prim.Native.Nat.{ℕ, ◌+◌, ◌-◌, ◌/◌}
 use native.Mathlib.Omega.{arith}
@@ -10,7 +10,7 @@ use Rattle.sums.specs.Cuts.{parts}
 use Rattle.sums.specs.Members.{nth}
 use Rattle.document.specs.Sizes.{top}
 use Rattle.document.specs.State.{Kind, absent, sparse, dense, State}
-use Rattle.document.specs.Refusals.{is_ranked, is_open, sizes_differ, no_room}
+use Rattle.document.specs.Refusals.{number, is_ranked, is_open, sizes_differ, no_room, not_laid_out, not_prepared, overflow_full, pages_full, rows_full}
 use Rattle.document.specs.Room.{overflows, sparses, denses, verdict}
 use Rattle.document.specs.Insert.{grown_map, new_answer, if_dense, prepared_answer, done}
 use Rattle.document.specs.Prepare.{dense_map, prepare_answer}
@@ -21,16 +21,10 @@ use Rattle.document.specs.Calls.{Ask, get, range_test, chunk_id, len, is_empty, 
 use Rattle.document.specs.Answers.{rank_up_answer, leave_answer, answer, chunk_in, perhaps_rank, rank_answer, rank_if_answer, total_answer, reply}
 use Rattle.document.specs.Plan.{plan_of, plan_answer}
 use Rattle.document.specs.declared.sizes.Sizes.{Sizes}
-use Rattle.document.specs.declared.answer.Outcome.{Outcome}
-use Rattle.document.specs.declared.answer.Outcome.TheVariants as outcome
-use Rattle.document.specs.declared.answer.Truth.{Truth}
-use Rattle.document.specs.declared.answer.Truth.TheVariants as truth
-use Rattle.document.specs.declared.answer.Amount.TheVariants as amount
-use Rattle.document.specs.declared.answer.Perhaps.TheVariants as perhaps
 use Rattle.document.specs.declared.plan.Plan.{Plan}
-use Rattle.document.specs.declared.plan.Planning.{Planning}
-use Rattle.document.specs.declared.plan.Planning.TheVariants as planning
-use Rattle.document.specs.declared.plan.Planning.TheVariants.{Made}
+use Rattle.document.specs.Results.{Outcome, Planning, Truth}
+use Rattle.std.specs.Prelude.{Err, Ok}
+use Rattle.document.specs.declared.refusal.Refusal.{Refusal}
 
 abbrev pub Not3 : Said → Type 0
 Not3 a = Refuses a 3 → ⊥
@@ -43,17 +37,17 @@ either say false s t p q = q
 verdict_not : (h : Sizes) (k : ℕ → Kind) (a : Truth) → Not3 (whether a) → Not3 (whether (verdict h k a))
 unfolding verdict
 verdict_not h k a p =
-    let eight = cond (ltb h.p (denses h k)) (truth.Refused 8) a in
-    let seven = cond (ltb h.r (sparses h k)) (truth.Refused 7) eight in
-    either whether (ltb h.v (overflows h k)) (truth.Refused 6) seven (λ e. omega arith)
-    (either whether (ltb h.r (sparses h k)) (truth.Refused 7) eight (λ e. omega arith)
-    (either whether (ltb h.p (denses h k)) (truth.Refused 8) a (λ e. omega arith) p))
+    let eight = cond (ltb h.p (denses h k)) (Err pages_full) a in
+    let seven = cond (ltb h.r (sparses h k)) (Err rows_full) eight in
+    either whether (ltb h.v (overflows h k)) (Err overflow_full) seven (λ e. omega arith)
+    (either whether (ltb h.r (sparses h k)) (Err rows_full) eight (λ e. omega arith)
+    (either whether (ltb h.p (denses h k)) (Err pages_full) a (λ e. omega arith) p))
 
 done_not : (a : Truth) → Not3 (whether a) → Not3 (that (done a))
-done_not (truth.Is b) p = p
-done_not (truth.Refused n) p = p
+done_not (Ok b) p = p
+done_not (Err n) p = p
 
-dense_not : (k : Kind) (b : Bool) → Not3 (whether (if_dense k (truth.Is b)))
+dense_not : (k : Kind) (b : Bool) → Not3 (whether (if_dense k (Ok b)))
 dense_not absent b = λ e. omega arith
 dense_not sparse b = λ e. omega arith
 dense_not dense b = λ e. e
@@ -61,26 +55,26 @@ dense_not dense b = λ e. e
 new_not : (q : State) (z : ℤ) → Not3 (whether (new_answer q z))
 unfolding new_answer
 new_not q (pos n) =
-    let room = verdict q.sizes (grown_map q (n / top q.sizes)) (truth.Is true) in
-    either whether q.mode (truth.Refused 4) (cond (q.members n) (truth.Is false) room) (λ e. omega arith)
-    (either whether (q.members n) (truth.Is false) room (λ e. e) (verdict_not q.sizes (grown_map q (n / top q.sizes)) (truth.Is true) (λ e. e)))
-new_not q (negsuc n) = either whether q.mode (truth.Refused 4) (truth.Is false) (λ e. omega arith) (λ e. e)
+    let room = verdict q.sizes (grown_map q (n / top q.sizes)) (Ok true) in
+    either whether q.mode (Err is_ranked) (cond (q.members n) (Ok false) room) (λ e. omega arith)
+    (either whether (q.members n) (Ok false) room (λ e. e) (verdict_not q.sizes (grown_map q (n / top q.sizes)) (Ok true) (λ e. e)))
+new_not q (negsuc n) = either whether q.mode (Err is_ranked) (Ok false) (λ e. omega arith) (λ e. e)
 
 prepared_not : (q : State) (z : ℤ) → Not3 (whether (prepared_answer q z))
 unfolding prepared_answer
 prepared_not q (pos n) =
     let k = q.map (n / top q.sizes) in
     let b = cond (q.members n) false true in
-    either whether q.mode (truth.Refused 4) (if_dense k (truth.Is b)) (λ e. omega arith) (dense_not k b)
-prepared_not q (negsuc n) = either whether q.mode (truth.Refused 4) (truth.Refused 9) (λ e. omega arith) (λ e. omega arith)
+    either whether q.mode (Err is_ranked) (if_dense k (Ok b)) (λ e. omega arith) (dense_not k b)
+prepared_not q (negsuc n) = either whether q.mode (Err is_ranked) (Err not_prepared) (λ e. omega arith) (λ e. omega arith)
 
 prepare_not : (q : State) (z : ℤ) → Not3 (that (prepare_answer q z))
 unfolding prepare_answer
 prepare_not q (pos n) =
     let map = dense_map q (n / top q.sizes) in
-    either that q.mode (outcome.Refused 4) (done (verdict q.sizes map (truth.Is true))) (λ e. omega arith)
-    (done_not (verdict q.sizes map (truth.Is true)) (verdict_not q.sizes map (truth.Is true) (λ e. e)))
-prepare_not q (negsuc n) = either that q.mode (outcome.Refused 4) outcome.Done (λ e. omega arith) (λ e. e)
+    either that q.mode (Err is_ranked) (done (verdict q.sizes map (Ok true))) (λ e. omega arith)
+    (done_not (verdict q.sizes map (Ok true)) (verdict_not q.sizes map (Ok true) (λ e. e)))
+prepare_not q (negsuc n) = either that q.mode (Err is_ranked) (Ok tt) (λ e. omega arith) (λ e. e)
 
 pub answer_not_three : (q : State) (c : Call) → Not3 (answer q c)
 unfolding rank_up_answer leave_answer
@@ -88,18 +82,18 @@ answer_not_three q (insert z) = new_not q z
 answer_not_three q (put z) = done_not (new_answer q z) (new_not q z)
 answer_not_three q (prepared z) = prepared_not q z
 answer_not_three q (prepare z) = prepare_not q z
-answer_not_three q rank_up = either that q.mode (outcome.Refused is_ranked) outcome.Done (λ e. omega arith) (λ e. e)
-answer_not_three q leave = either that q.mode outcome.Done (outcome.Refused is_open) (λ e. e) (λ e. omega arith)
+answer_not_three q rank_up = either that q.mode (Err is_ranked) (Ok tt) (λ e. omega arith) (λ e. e)
+answer_not_three q leave = either that q.mode (Ok tt) (Err is_open) (λ e. e) (λ e. omega arith)
 
 union_not : (q p : State) (j : Join) → Not3 (that (union_answer q p j))
 unfolding union_answer
 union_not q p j =
-    let room = verdict q.sizes (union_map q p) (truth.Is true) in
-    either that (barred q p j) (outcome.Refused is_ranked) (cond (same_shape q.sizes p.sizes) (done room) (outcome.Refused sizes_differ)) (λ e. omega arith)
-    (either that (same_shape q.sizes p.sizes) (done room) (outcome.Refused sizes_differ)
-    (done_not room (verdict_not q.sizes (union_map q p) (truth.Is true) (λ e. e))) (λ e. omega arith))
+    let room = verdict q.sizes (union_map q p) (Ok true) in
+    either that (barred q p j) (Err is_ranked) (cond (same_shape q.sizes p.sizes) (done room) (Err sizes_differ)) (λ e. omega arith)
+    (either that (same_shape q.sizes p.sizes) (done room) (Err sizes_differ)
+    (done_not room (verdict_not q.sizes (union_map q p) (Ok true) (λ e. e))) (λ e. omega arith))
 
-pub union_not_three : (q p : State) (j : Join) → union_answer q p j ≡ outcome.Refused 3 → ⊥
+pub union_not_three : (q p : State) (j : Join) → union_answer q p j ≡ Err not_laid_out → ⊥
 union_not_three q p j e = union_not q p j (subst (λ (a : Outcome). Refuses (that a) 3) (sym e) refl)
 
 chunk_not : (h : Sizes) (z : ℤ) → Not3 (maybe (chunk_in h z))
@@ -125,27 +119,27 @@ reply_not_three q is_empty = λ e. e
 reply_not_three q has_any = λ e. e
 reply_not_three q chunk_count = λ e. e
 reply_not_three q (iterate z) = listing_not q.members z
-reply_not_three q (rank_of z) = either many q.mode (amount.Of (rank q.members z)) (amount.Refused 5) (λ e. e) (λ e. omega arith)
-reply_not_three q (rank_if_set z) = either maybe q.mode (perhaps_rank (rank_if q.members z)) (perhaps.Refused 5) (rank_if_not (rank_if q.members z)) (λ e. omega arith)
-reply_not_three q total_count = either many q.mode (amount.Of (total q.members)) (amount.Refused 5) (λ e. e) (λ e. omega arith)
+reply_not_three q (rank_of z) = either many q.mode (Ok (rank q.members z)) (Err is_open) (λ e. e) (λ e. omega arith)
+reply_not_three q (rank_if_set z) = either maybe q.mode (perhaps_rank (rank_if q.members z)) (Err is_open) (rank_if_not (rank_if q.members z)) (λ e. omega arith)
+reply_not_three q total_count = either many q.mode (Ok (total q.members)) (Err is_open) (λ e. e) (λ e. omega arith)
 reply_not_three q check = λ e. e
 
 -- planning
-made_not : (p : Plan) → Made p ≡ planning.Refused 3 → ⊥
+made_not : (p : Plan) → ◌≡◌ {A = Planning} (Ok p) (Err not_laid_out) → ⊥
 made_not p e = let z : ◌≡◌ {A = ℕ} 0 1 = cc in omega arith
 
-other_not : (n : ℕ) → (n ≡ 3 → ⊥) → planning.Refused n ≡ planning.Refused 3 → ⊥
-other_not n d e = d (let h : n ≡ 3 = cc in h)
+other_not : (n : Refusal) → (number n ≡ 3 → ⊥) → ◌≡◌ {A = Planning} (Err n) (Err not_laid_out) → ⊥
+other_not n d e = d (ap number (let h : n ≡ not_laid_out = cc in h))
 
-one_of : (b : Bool) (s t : Planning) → (s ≡ planning.Refused 3 → ⊥) → (t ≡ planning.Refused 3 → ⊥) → cond b s t ≡ planning.Refused 3 → ⊥
+one_of : (b : Bool) (s t : Planning) → (s ≡ Err not_laid_out → ⊥) → (t ≡ Err not_laid_out → ⊥) → cond b s t ≡ Err not_laid_out → ⊥
 one_of true s t p q = p
 one_of false s t p q = q
 
-pub plan_not_three : (q : State) (S room : ℕ) → plan_answer q S room ≡ planning.Refused 3 → ⊥
+pub plan_not_three : (q : State) (S room : ℕ) → plan_answer q S room ≡ Err not_laid_out → ⊥
 unfolding plan_answer
 plan_not_three q S room =
-    let made = Made (plan_of (total q.members) S) in
+    let made = Ok (plan_of (total q.members) S) in
     let full = ltb room (parts (total q.members) S - 1) in
-    one_of q.mode (cond full (planning.Refused no_room) made) (planning.Refused is_open)
-    (one_of full (planning.Refused no_room) made (other_not no_room (λ e. omega arith)) (made_not (plan_of (total q.members) S)))
+    one_of q.mode (cond full (Err no_room) made) (Err is_open)
+    (one_of full (Err no_room) made (other_not no_room (λ e. omega arith)) (made_not (plan_of (total q.members) S)))
     (other_not is_open (λ e. omega arith))

@@ -1,16 +1,10 @@
 -- Every call that changes a set, every call that reads one, and what they say.
-use Rattle.std.specs.Prelude.{◌≡◌, ℕ, zero, suc, ℤ}
+use Rattle.std.specs.Prelude.{◌≡◌, ℕ, zero, suc, ℤ, Some, None, Ok, Err}
 use Rattle.std.specs.Int.{w64}
 use Rattle.std.proofs.Common.{SFits}
-use Rattle.document.specs.declared.answer.Outcome.{Outcome}
-use Rattle.document.specs.declared.answer.Outcome.TheVariants as outcome
-use Rattle.document.specs.declared.answer.Truth.{Truth}
-use Rattle.document.specs.declared.answer.Truth.TheVariants as truth
-use Rattle.document.specs.declared.answer.Amount.{Amount}
-use Rattle.document.specs.declared.answer.Amount.TheVariants as amount
-use Rattle.document.specs.declared.answer.Perhaps.{Perhaps}
-use Rattle.document.specs.declared.answer.Perhaps.TheVariants as perhaps
 use Rattle.document.specs.declared.answer.Listing.{Listing}
+use Rattle.document.specs.Refusals.{number}
+use Rattle.document.specs.Results.{Amount, Outcome, Perhaps, Truth}
 
 pub data Call : Type 0 where
   -- `set_if_new`, `set`, the prepared insert, `pre_allocate`
@@ -62,13 +56,13 @@ Beside (suc k) n = suc k ≡ n
 
 -- that it says the refusal n
 abbrev pub Refuses : Said → ℕ → Type 0
-Refuses (whether (truth.Is b)) n = ⊥
-Refuses (whether (truth.Refused k)) n = k ≡ n
-Refuses (that outcome.Done) n = ⊥
-Refuses (that (outcome.Refused k)) n = k ≡ n
-Refuses (many (amount.Of k)) n = ⊥
-Refuses (many (amount.Refused k)) n = k ≡ n
-Refuses (maybe (perhaps.Of k)) n = ⊥
-Refuses (maybe perhaps.Nothing) n = ⊥
-Refuses (maybe (perhaps.Refused k)) n = k ≡ n
+Refuses (whether (Ok b)) n = ⊥
+Refuses (whether (Err k)) n = number k ≡ n
+Refuses (that (Ok tt)) n = ⊥
+Refuses (that (Err k)) n = number k ≡ n
+Refuses (many (Ok k)) n = ⊥
+Refuses (many (Err k)) n = number k ≡ n
+Refuses (maybe (Ok (Some k))) n = ⊥
+Refuses (maybe (Ok None)) n = ⊥
+Refuses (maybe (Err k)) n = number k ≡ n
 Refuses (listed r) n = Beside r.refusal n

@@ -1,14 +1,11 @@
 -- Insert and prepared insert: the answer, and the set after it.
-use Rattle.std.specs.Prelude.{ℕ, ◌+◌, ◌*◌, ◌/◌, Bool, true, false, cond, ◌||◌, ltb, eqb, ℤ, pos, negsuc}
+use Rattle.std.specs.Prelude.{ℕ, ◌+◌, ◌*◌, ◌/◌, Bool, true, false, cond, ◌||◌, ltb, eqb, ℤ, pos, negsuc, Ok, Err}
 use Rattle.sums.specs.Ids.{count}
 use Rattle.document.specs.Sizes.{top}
 use Rattle.document.specs.State.{Kind, absent, sparse, dense, State}
 use Rattle.document.specs.Refusals.{is_ranked, not_prepared}
 use Rattle.document.specs.Room.{verdict}
-use Rattle.document.specs.declared.answer.Outcome.{Outcome}
-use Rattle.document.specs.declared.answer.Outcome.TheVariants as outcome
-use Rattle.document.specs.declared.answer.Truth.{Truth}
-use Rattle.document.specs.declared.answer.Truth.TheVariants.{Is, Refused}
+use Rattle.document.specs.Results.{Outcome, Truth}
 
 -- members of chunk c
 unfoldable pub chunk_size : State → ℕ → ℕ
@@ -27,23 +24,23 @@ grown_map q c c' = cond (eqb c' c) (grown (q.map c) (chunk_size q c) q.sizes.m) 
 -- 4; negative or a member, no; else 6, 7, 8 or yes
 unfoldable pub new_answer : State → ℤ → Truth
 new_answer q (pos n) =
-    cond q.mode (Refused is_ranked) (cond (q.members n) (Is false) (verdict q.sizes (grown_map q (n / top q.sizes)) (Is true)))
-new_answer q (negsuc n) = cond q.mode (Refused is_ranked) (Is false)
+    cond q.mode (Err is_ranked) (cond (q.members n) (Ok false) (verdict q.sizes (grown_map q (n / top q.sizes)) (Ok true)))
+new_answer q (negsuc n) = cond q.mode (Err is_ranked) (Ok false)
 
 -- `set` drops the answer
 abbrev pub done : Truth → Outcome
-done (Is b) = outcome.Done
-done (Refused n) = outcome.Refused n
+done (Ok b) = Ok tt
+done (Err n) = Err n
 
 -- prepared insert: 4; 9 unless the chunk is dense; else whether the id is new
 abbrev pub if_dense : Kind → Truth → Truth
-if_dense absent a = Refused not_prepared
-if_dense sparse a = Refused not_prepared
+if_dense absent a = Err not_prepared
+if_dense sparse a = Err not_prepared
 if_dense dense a = a
 
 unfoldable pub prepared_answer : State → ℤ → Truth
-prepared_answer q (pos n) = cond q.mode (Refused is_ranked) (if_dense (q.map (n / top q.sizes)) (Is (cond (q.members n) false true)))
-prepared_answer q (negsuc n) = cond q.mode (Refused is_ranked) (Refused not_prepared)
+prepared_answer q (pos n) = cond q.mode (Err is_ranked) (if_dense (q.map (n / top q.sizes)) (Ok (cond (q.members n) false true)))
+prepared_answer q (negsuc n) = cond q.mode (Err is_ranked) (Err not_prepared)
 
 -- ---- the set after an answer
 
@@ -58,5 +55,5 @@ map_after q (pos n) false = q.map
 map_after q (negsuc n) b = q.map
 
 abbrev pub inserted : State → ℤ → Truth → State
-inserted q z (Is b) = record { sizes = q.sizes; mode = q.mode; members = λ (n : ℕ). q.members n || is_id z n; map = map_after q z b }
-inserted q z (Refused n) = q
+inserted q z (Ok b) = record { sizes = q.sizes; mode = q.mode; members = λ (n : ℕ). q.members n || is_id z n; map = map_after q z b }
+inserted q z (Err n) = q

@@ -1,6 +1,7 @@
 pub mod Sizes
 pub mod State
 pub mod Refusals
+pub mod Results
 pub mod Room
 pub mod Insert
 pub mod Prepare

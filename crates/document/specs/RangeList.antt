@@ -1,14 +1,11 @@
 -- The range list: each mark by a test of the record's ends, low and high as they were.
-use Rattle.std.specs.Prelude.{ℕ, List, [], ◌∷◌, map, Bool, cond, ℤ}
+use Rattle.std.specs.Prelude.{ℕ, List, [], ◌∷◌, map, Bool, cond, ℤ, Ok, Err}
 use Rattle.sums.specs.Ids.{any_in_range}
 use Rattle.document.specs.State.{State}
 use Rattle.document.specs.Spans.{range_meets}
 use Rattle.document.specs.declared.range.Range.{Range}
 use Rattle.document.specs.declared.plan.Span.{Span}
-use Rattle.document.specs.declared.plan.Spanned.{Spanned}
-use Rattle.document.specs.declared.plan.Spanned.TheVariants as spanned
-use Rattle.document.specs.declared.answer.Outcome.{Outcome}
-use Rattle.document.specs.declared.answer.Outcome.TheVariants.{Done, Refused}
+use Rattle.document.specs.Results.{Outcome, Spanned}
 
 -- low and high stay
 abbrev pub marked : Range → Bool → Range
@@ -33,16 +30,16 @@ hits q lo hi = any_in_range q.members lo hi
 
 -- by `range_meets`, of a partition that `ids` answers or refuses
 abbrev pub meets_answer : Spanned → Outcome
-meets_answer (spanned.Of i) = Done
-meets_answer (spanned.Refused n) = Refused n
+meets_answer (Ok i) = Ok tt
+meets_answer (Err n) = Err n
 
 abbrev pub meets : Span → ℤ → ℤ → Bool
 meets i lo hi = range_meets lo hi i
 
 abbrev pub meets_marks : Spanned → List Range → List Range
-meets_marks (spanned.Of i) rs = marks (meets i) rs
-meets_marks (spanned.Refused n) rs = rs
+meets_marks (Ok i) rs = marks (meets i) rs
+meets_marks (Err n) rs = rs
 
 abbrev pub meets_marks_in : Spanned → List ℤ → List ℤ → List ℕ → List ℕ
-meets_marks_in (spanned.Of i) los his ms = marks_in (meets i) los his ms
-meets_marks_in (spanned.Refused n) los his ms = ms
+meets_marks_in (Ok i) los his ms = marks_in (meets i) los his ms
+meets_marks_in (Err n) los his ms = ms

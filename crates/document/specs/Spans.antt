@@ -1,15 +1,12 @@
 -- The intervals of a plan record and its boundaries, which come from the caller.
-use Rattle.std.specs.Prelude.{ℕ, ◌+◌, ◌-◌, ◌*◌, ◌^◌, min, List, Bool, cond, not, ◌&&◌, ℤ, pos, negsuc, length, get_or, leb, ltb, eqb}
+use Rattle.std.specs.Prelude.{ℕ, ◌+◌, ◌-◌, ◌*◌, ◌^◌, min, List, Bool, cond, not, ◌&&◌, ℤ, pos, negsuc, length, get_or, leb, ltb, eqb, Ok, Err}
 use Rattle.std.specs.Int.Signed.{le_z, lt_z}
 use Rattle.sums.specs.Cuts.{parts, Interval, before, none, inside}
 use Rattle.document.specs.Refusals.{not_laid_out, no_partition}
 use Rattle.document.specs.declared.plan.Plan.{Plan}
 use Rattle.document.specs.declared.plan.Span.{Span}
 use Rattle.document.specs.declared.plan.Span.TheVariants.{Between, From}
-use Rattle.document.specs.declared.plan.Spanned.{Spanned}
-use Rattle.document.specs.declared.plan.Spanned.TheVariants as spanned
-use Rattle.document.specs.declared.plan.Ranks.{Ranks}
-use Rattle.document.specs.declared.plan.Ranks.TheVariants as ranks
+use Rattle.document.specs.Results.{Ranked, Spanned}
 
 -- the record: S is not 0, and the number of partitions is that of the total; the boundaries are as many as it needs
 abbrev pub record_ok : Plan → Bool
@@ -28,14 +25,14 @@ span_at p bs k = cond (ltb (k + 1) p.partitions) (Between (low_at bs k) (get_or 
 -- `ids`: 3, then 12
 unfoldable pub ids_answer : Plan → List ℤ → ℕ → Spanned
 ids_answer p bs k =
-    cond (plan_ok p bs) (cond (ltb k p.partitions) (spanned.Of (span_at p bs k)) (spanned.Refused no_partition)) (spanned.Refused not_laid_out)
+    cond (plan_ok p bs) (cond (ltb k p.partitions) (Ok (span_at p bs k)) (Err no_partition)) (Err not_laid_out)
 
 -- `ranks`: kS and the count min(S, total - kS)
-unfoldable pub ranks_answer : Plan → ℕ → Ranks
+unfoldable pub ranks_answer : Plan → ℕ → Ranked
 ranks_answer p k =
     cond (record_ok p)
-    (cond (ltb k p.partitions) (ranks.Of (k * p.slots) (min p.slots (p.total - k * p.slots))) (ranks.Refused no_partition))
-    (ranks.Refused not_laid_out)
+    (cond (ltb k p.partitions) (Ok (record { first = k * p.slots; count = min p.slots (p.total - k * p.slots) })) (Err no_partition))
+    (Err not_laid_out)
 
 -- a span as an interval of the plan's theory
 abbrev pub interval_of : Span → Interval

@@ -1,5 +1,5 @@
 -- Union: the answer, and both sets after it.
-use Rattle.std.specs.Prelude.{ℕ, ◌+◌, ◌*◌, Bool, true, cond, ◌&&◌, ◌||◌, leb, eqb}
+use Rattle.std.specs.Prelude.{ℕ, ◌+◌, ◌*◌, Bool, true, cond, ◌&&◌, ◌||◌, leb, eqb, Ok, Err}
 use Rattle.sums.specs.Ids.{Ids, count}
 use Rattle.document.specs.Sizes.{top}
 use Rattle.document.specs.State.{Kind, absent, sparse, dense, State, empty}
@@ -7,9 +7,7 @@ use Rattle.document.specs.Refusals.{is_ranked, sizes_differ}
 use Rattle.document.specs.Room.{verdict}
 use Rattle.document.specs.Insert.{done}
 use Rattle.document.specs.declared.sizes.Sizes.{Sizes}
-use Rattle.document.specs.declared.answer.Outcome.{Outcome}
-use Rattle.document.specs.declared.answer.Outcome.TheVariants.{Done, Refused}
-use Rattle.document.specs.declared.answer.Truth.TheVariants as truth
+use Rattle.document.specs.Results.{Outcome}
 
 -- `merge_from`, and `merge`, after which the source is empty and open
 pub data Join : Type 0 where
@@ -46,17 +44,17 @@ barred q p merge = q.mode || p.mode
 -- 4, then 10, then 6, 7, 8 on the map after
 unfoldable pub union_answer : State → State → Join → Outcome
 union_answer q p j =
-    cond (barred q p j) (Refused is_ranked)
-    (cond (same_shape q.sizes p.sizes) (done (verdict q.sizes (union_map q p) (truth.Is true))) (Refused sizes_differ))
+    cond (barred q p j) (Err is_ranked)
+    (cond (same_shape q.sizes p.sizes) (done (verdict q.sizes (union_map q p) (Ok true))) (Err sizes_differ))
 
 -- ---- the sets after an answer
 
 abbrev pub united : State → State → Outcome → State
-united q p Done = record { sizes = q.sizes; mode = q.mode; members = either q.members p.members; map = union_map q p }
-united q p (Refused n) = q
+united q p (Ok tt) = record { sizes = q.sizes; mode = q.mode; members = either q.members p.members; map = union_map q p }
+united q p (Err n) = q
 
 -- the source
 abbrev pub leftover : State → Join → Outcome → State
 leftover p merge_from a = p
-leftover p merge Done = empty p.sizes
-leftover p merge (Refused n) = p
+leftover p merge (Ok tt) = empty p.sizes
+leftover p merge (Err n) = p

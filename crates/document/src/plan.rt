@@ -6,12 +6,6 @@ pub struct Plan {
     pub partitions: u64,
 }
 
-#[derive(Clone, Copy)]
-pub enum Planning {
-    Made(Plan),
-    Refused(u64),
-}
-
 // An interval of ids: its low end, and its high end, excluded, or none.
 #[derive(Clone, Copy)]
 pub enum Span {
@@ -19,15 +13,9 @@ pub enum Span {
     From(i64),
 }
 
-#[derive(Clone, Copy)]
-pub enum Spanned {
-    Of(Span),
-    Refused(u64),
-}
-
 // First rank and count of a partition.
 #[derive(Clone, Copy)]
-pub enum Ranks {
-    Of(u64, u64),
-    Refused(u64),
+pub struct Ranks {
+    pub first: u64,
+    pub count: u64,
 }

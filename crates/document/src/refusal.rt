@@ -1,25 +1,36 @@
-// The refusal numbers of document 01, by the names that specs/Refusals gives them beside their sentences.
+// Why a call is refused: document 01's table, each with its number. specs/Refusals has their sentences.
+ghost use Rattle.std.specs.Prelude.{◌≡◌};
+ghost use Rattle.document.specs.Refusals.{number};
 
-pub const OUTSIDE_SIZES: u64 = 1;
+use std::fmt;
 
-pub const TOO_SHORT: u64 = 2;
+#[derive(Clone, Copy, Debug, PartialEq, Eq)]
+pub enum Refusal {
+    OutsideSizes = 1,
+    TooShort = 2,
+    NotLaidOut = 3,
+    IsRanked = 4,
+    IsOpen = 5,
+    OverflowFull = 6,
+    RowsFull = 7,
+    PagesFull = 8,
+    NotPrepared = 9,
+    SizesDiffer = 10,
+    NoRoom = 11,
+    NoPartition = 12,
+}
 
-pub const NOT_LAID_OUT: u64 = 3;
+impl Refusal {
+    // Document 01's number.
+    pub fn number(self) -> u64
+        ensures { result ≡ number self }
+    {
+        self as u64
+    }
+}
 
-pub const IS_RANKED: u64 = 4;
-
-pub const IS_OPEN: u64 = 5;
-
-pub const OVERFLOW_FULL: u64 = 6;
-
-pub const ROWS_FULL: u64 = 7;
-
-pub const PAGES_FULL: u64 = 8;
-
-pub const NOT_PREPARED: u64 = 9;
-
-pub const SIZES_DIFFER: u64 = 10;
-
-pub const NO_ROOM: u64 = 11;
-
-pub const NO_PARTITION: u64 = 12;
+impl fmt::Display for Refusal {
+    fn fmt<W: fmt::Write>(&self, f: &mut fmt::Formatter<W>) -> fmt::Result {
+        write!(f, "refused {}", self.number())
+    }
+}

@@ -6,16 +6,13 @@ ghost use Rattle.calls.specs.Range.{entry_from, clip_low, clip_high};
 ghost use Rattle.calls.specs.Iteration.{from_zero};
 
 use layout::head;
-use numbers::{Natural, id as ids, power};
+use numbers::{id as ids, power};
 
 // A negative start is read as 0.
 pub fn from_zero(id: i64) -> u64
     ensures { result ≡ from_zero id }
 {
-    match ids::natural(id) {
-        Natural::Negative => 0,
-        Natural::At(n) => n,
-    }
+    ids::natural(id).unwrap_or(0)
 }
 
 // The first entry that may have an id of lo or more. What else memory holds is all one.
@@ -33,9 +30,10 @@ pub fn low(s: u64, lo: u64, c: u64) -> u64
     ensures { (result ≡ clip_low (2 ^ s) lo c) × (result < 2 ^ s) }
 {
     if c == power::high(lo, s) {
-        return power::low(lo, s);
+        power::low(lo, s)
+    } else {
+        0
     }
-    0
 }
 
 // The last offset of chunk c whose id is not above hi, where hi's chunk is not before it.
@@ -44,7 +42,8 @@ pub fn high(s: u64, hi: u64, c: u64) -> u64
     ensures { (result ≡ clip_high (2 ^ s) hi c) × (result < 2 ^ s) }
 {
     if c == power::high(hi, s) {
-        return power::low(hi, s);
+        power::low(hi, s)
+    } else {
+        power::pow2(s) - 1
     }
-    power::pow2(s) - 1
 }

@@ -11,6 +11,7 @@ ghost use Rattle.calls.specs.Reading.{spot_by};
 ghost use Rattle.calls.specs.Counts.{entries_ok, word_by};
 ghost use Rattle.calls.specs.Range.{entry_from};
 
+use document::refusal::Refusal;
 use layout::find::Spot;
 use layout::{entry, find, head};
 
@@ -37,9 +38,10 @@ pub fn from(table: &[u64], c: u64) -> u64
 {
     let h = head::read(table);
     if c < h.d {
-        return c;
+        c
+    } else {
+        h.d + find::over_below(table, h, c)
     }
-    h.d + find::over_below(table, h, c)
 }
 
 // The first from e on that has a word, else n. Most entries are absent: eight of them are passed over at once.
@@ -50,13 +52,13 @@ pub fn next_used(table: &[u64], e: u64, n: u64) -> u64
 {
     let d = head::direct(table);
     let mut i = e;
+    // No `for`: it goes on by eight or by one.
     while i < n {
         if entry::eight_absent(table, d, i) {
             i += 8;
+        } else if entry::word_by(table, i) != 0 {
+            return i;
         } else {
-            if entry::word_by(table, i) != 0 {
-                return i;
-            }
             i += 1;
         }
     }
@@ -71,8 +73,14 @@ pub fn chunk(table: &[u64], e: u64) -> u64
     entry::chunk_by(table, e)
 }
 
-// The part that entry e names.
-pub fn spot_at(pages: &[u64], rows: &[u32], blocks: &[u32], table: &[u64], e: u64) -> Spot
+// The part that entry e names, refused where it is not inside its pool.
+pub fn spot_at(
+    pages: &[u64],
+    rows: &[u32],
+    blocks: &[u32],
+    table: &[u64],
+    e: u64,
+) -> Result<Spot, Refusal>
     requires { (entries_ok table.now ≡ true) × (e ≤ 327680) }
     ensures { let x = mem pages.now rows.now blocks.now table.now in
         result ≡ spot_by x (word_by x e) }

@@ -1,13 +1,11 @@
 // The calls that change a set: answer and memory after are those of the call that each wraps.
 ghost use Rattle.layout.specs.Mem.{mem};
 ghost use Rattle.layout.specs.SetUp.{sizes_of};
-ghost use Rattle.document.specs.declared.answer.Outcome.{Outcome};
-ghost use Rattle.document.specs.declared.answer.Truth.{Truth};
 ghost use Rattle.document.specs.Calls.{insert, put, prepared, prepare, rank_up, leave, whether, that};
 ghost use Rattle.contracts.specs.Does.{Does, SetsUp};
 ghost use Rattle.codes.specs.Codes.{Coded, outcome_code, truth_code};
+ghost use Rattle.document.specs.Results.{Outcome, Truth};
 
-use codes::answer;
 use codes::answer::{DoneAnswer, TruthAnswer};
 use idset::setup;
 use inserts::insert;
@@ -31,7 +29,7 @@ pub extern "C" fn bp_set_up(
         let y = mem pages.new rows.new blocks.new table.new in
         Coded outcome_code (λ (o : Outcome). SetsUp (sizes_of s m d v r p) x o y) result }
 {
-    answer::of_outcome(setup::set_up(s, m, d, v, r, p, pages, rows, blocks, table))
+    DoneAnswer::from(setup::set_up(s, m, d, v, r, p, pages, rows, blocks, table))
 }
 
 // Inserts an id, and drops the answer.
@@ -47,7 +45,7 @@ pub extern "C" fn bp_set(
         let y = mem pages.new rows.new blocks.new table.new in
         Coded outcome_code (λ (a : Outcome). Does x (put id) (that a) y) result }
 {
-    answer::of_outcome(insert::set(pages, rows, blocks, table, id))
+    DoneAnswer::from(insert::set(pages, rows, blocks, table, id))
 }
 
 // Inserts an id, and answers whether it is new.
@@ -63,7 +61,7 @@ pub extern "C" fn bp_set_if_new(
         let y = mem pages.new rows.new blocks.new table.new in
         Coded truth_code (λ (a : Truth). Does x (insert id) (whether a) y) result }
 {
-    answer::of_truth(insert::set_if_new(pages, rows, blocks, table, id))
+    TruthAnswer::from(insert::set_if_new(pages, rows, blocks, table, id))
 }
 
 // Inserts an id into a dense chunk, and answers whether it is new.
@@ -79,7 +77,7 @@ pub extern "C" fn bp_set_prepared(
         let y = mem pages.new rows.new blocks.new table.new in
         Coded truth_code (λ (a : Truth). Does x (prepared id) (whether a) y) result }
 {
-    answer::of_truth(insert::set_prepared(pages, rows, blocks, table, id))
+    TruthAnswer::from(insert::set_prepared(pages, rows, blocks, table, id))
 }
 
 // Every chunk from 0 to the maximum's becomes dense, with its members.
@@ -95,7 +93,7 @@ pub extern "C" fn bp_pre_allocate(
         let y = mem pages.new rows.new blocks.new table.new in
         Coded outcome_code (λ (a : Outcome). Does x (prepare max) (that a) y) result }
 {
-    answer::of_outcome(prepare::pre_allocate(pages, rows, blocks, table, max))
+    DoneAnswer::from(prepare::pre_allocate(pages, rows, blocks, table, max))
 }
 
 // Counts for ranks: the set is ranked.
@@ -110,7 +108,7 @@ pub extern "C" fn bp_into_ranked(
         let y = mem pages.now rows.now blocks.new table.new in
         Coded outcome_code (λ (a : Outcome). Does x rank_up (that a) y) result }
 {
-    answer::of_outcome(form::into_ranked(pages, rows, blocks, table))
+    DoneAnswer::from(form::into_ranked(pages, rows, blocks, table))
 }
 
 // Leaves the ranked form: the counts are cleared.
@@ -125,5 +123,5 @@ pub extern "C" fn bp_into_open(
         let y = mem pages.now rows.now blocks.new table.new in
         Coded outcome_code (λ (a : Outcome). Does x leave (that a) y) result }
 {
-    answer::of_outcome(form::into_open(pages, rows, blocks, table))
+    DoneAnswer::from(form::into_open(pages, rows, blocks, table))
 }

@@ -1,11 +1,10 @@
 // Calls over a list of ids, the set's four slices last. Answers, or memory after, are those of the call that each wraps.
 ghost use Rattle.layout.specs.Mem.{mem};
-ghost use Rattle.document.specs.declared.answer.Outcome.{Outcome};
 ghost use Rattle.lists.specs.Lists.{get_all, rank_all, rank_if_all, AnswersAll};
 ghost use Rattle.lists.specs.Inserts.{InsertsAll};
 ghost use Rattle.codes.specs.Codes.{Coded, outcome_code};
+ghost use Rattle.document.specs.Results.{Outcome};
 
-use codes::answer;
 use codes::answer::DoneAnswer;
 use lists::insert::Inserted;
 use lists::{insert, read};
@@ -23,7 +22,7 @@ pub extern "C" fn bp_get_all(
     ensures { let x = mem pages.now rows.now blocks.now table.now in
         Coded outcome_code (λ (a : Outcome). AnswersAll x get_all ids.now answers.old a answers.new) result }
 {
-    answer::of_outcome(read::get_all(ids, answers, pages, rows, blocks, table))
+    DoneAnswer::from(read::get_all(ids, answers, pages, rows, blocks, table))
 }
 
 // The rank of each id.
@@ -39,7 +38,7 @@ pub extern "C" fn bp_rank_all(
     ensures { let x = mem pages.now rows.now blocks.now table.now in
         Coded outcome_code (λ (a : Outcome). AnswersAll x rank_all ids.now answers.old a answers.new) result }
 {
-    answer::of_outcome(read::rank_all(ids, answers, pages, rows, blocks, table))
+    DoneAnswer::from(read::rank_all(ids, answers, pages, rows, blocks, table))
 }
 
 // The rank of each member; 2^64 - 1 stands for none.
@@ -55,7 +54,7 @@ pub extern "C" fn bp_rank_if_set_all(
     ensures { let x = mem pages.now rows.now blocks.now table.now in
         Coded outcome_code (λ (a : Outcome). AnswersAll x rank_if_all ids.now answers.old a answers.new) result }
 {
-    answer::of_outcome(read::rank_if_set_all(ids, answers, pages, rows, blocks, table))
+    DoneAnswer::from(read::rank_if_set_all(ids, answers, pages, rows, blocks, table))
 }
 
 // Inserts ids up to the first that is refused. The record is C's own as it stands.

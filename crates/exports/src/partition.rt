@@ -2,11 +2,10 @@
 ghost use Rattle.std.specs.Prelude.{◌≡◌};
 ghost use Rattle.layout.specs.Mem.{mem};
 ghost use Rattle.document.specs.Spans.{in_partition, ids_answer, ranks_answer, range_meets};
-ghost use Rattle.document.specs.declared.plan.Planning.{Planning};
 ghost use Rattle.cuts.specs.Promise.{Plans};
 ghost use Rattle.codes.specs.Codes.{Coded, planning_code, spanned_code, ranks_code, plan_in, span_in};
+ghost use Rattle.document.specs.Results.{Planning};
 
-use codes::cut;
 use codes::cut::{IntervalAnswer, PlanAnswer, RanksAnswer};
 use cuts::planning;
 use document::plan::{Plan, Span};
@@ -25,7 +24,7 @@ pub extern "C" fn bp_plan(
     ensures { let x = mem pages.now rows.now blocks.now table.now in
         Coded planning_code (λ (a : Planning). Plans x slots bounds.old a bounds.new) result }
 {
-    cut::of_planning(planning::plan(pages, rows, blocks, table, slots, bounds))
+    PlanAnswer::from(planning::plan(pages, rows, blocks, table, slots, bounds))
 }
 
 // A plan from its numbers.
@@ -50,7 +49,7 @@ pub extern "C" fn bp_ids(
 ) -> IntervalAnswer
     ensures { result ≡ spanned_code (ids_answer (plan_in total slots partitions) bounds.now k) }
 {
-    cut::of_spanned(interval::ids(plan_of(total, slots, partitions), bounds, k))
+    IntervalAnswer::from(interval::ids(plan_of(total, slots, partitions), bounds, k))
 }
 
 // Partition k's first rank and how many members it holds.
@@ -58,7 +57,7 @@ pub extern "C" fn bp_ids(
 pub extern "C" fn bp_ranks(total: u64, slots: u64, partitions: u64, k: u64) -> RanksAnswer
     ensures { result ≡ ranks_code (ranks_answer (plan_in total slots partitions) k) }
 {
-    cut::of_ranks(interval::ranks(plan_of(total, slots, partitions), k))
+    RanksAnswer::from(interval::ranks(plan_of(total, slots, partitions), k))
 }
 
 // An interval from its numbers; without a high end the last isn't looked at.

@@ -1,11 +1,10 @@
 // The range list, as slices of lows, highs and marks of 0 or 1. Answer and marks after are those of the call that each wraps.
 ghost use Rattle.layout.specs.Mem.{mem};
 ghost use Rattle.document.specs.Spans.{ids_answer};
-ghost use Rattle.document.specs.declared.answer.Outcome.{Outcome};
 ghost use Rattle.range_list.specs.Marks.{EndsByRange, EndsByPartition};
 ghost use Rattle.codes.specs.Codes.{Coded, outcome_code, plan_in};
+ghost use Rattle.document.specs.Results.{Outcome};
 
-use codes::answer;
 use codes::answer::DoneAnswer;
 use document::plan::Plan;
 use range_list::ends;
@@ -24,7 +23,7 @@ pub extern "C" fn bp_mark_ends_by_range(
     ensures { let x = mem pages.now rows.now blocks.now table.now in
         Coded outcome_code (λ (a : Outcome). EndsByRange x lows.now highs.now marks.old a marks.new) result }
 {
-    answer::of_outcome(ends::mark_ends_by_range(lows, highs, marks, pages, rows, blocks, table))
+    DoneAnswer::from(ends::mark_ends_by_range(lows, highs, marks, pages, rows, blocks, table))
 }
 
 // Sets each mark as `range_meets` answers of partition k.
@@ -47,5 +46,5 @@ pub extern "C" fn bp_mark_ends_by_partition(
         slots,
         partitions,
     };
-    answer::of_outcome(ends::mark_ends_by_partition(lows, highs, marks, p, bounds, k))
+    DoneAnswer::from(ends::mark_ends_by_partition(lows, highs, marks, p, bounds, k))
 }

@@ -1,15 +1,12 @@
 // The calls that only read: each answers the code of what the call that it wraps answers.
 ghost use Rattle.layout.specs.Mem.{mem};
-ghost use Rattle.document.specs.declared.answer.Truth.{Truth};
-ghost use Rattle.document.specs.declared.answer.Truth.TheVariants.{Is};
-ghost use Rattle.document.specs.declared.answer.Amount.{Amount};
-ghost use Rattle.document.specs.declared.answer.Perhaps.{Perhaps};
 ghost use Rattle.document.specs.Calls.{get, range_test, chunk_id, len, is_empty, has_any, chunk_count, iterate, rank_of, rank_if_set, total_count, check};
 ghost use Rattle.document.specs.Calls.{whether, many, maybe, listed};
 ghost use Rattle.contracts.specs.Does.{Answers};
 ghost use Rattle.codes.specs.Codes.{Coded, truth_code, amount_code, perhaps_code};
+ghost use Rattle.document.specs.Results.{Amount, Perhaps, Truth};
+ghost use Rattle.std.specs.Prelude.{Ok};
 
-use codes::answer;
 use codes::answer::{NumberAnswer, OptionalAnswer, TruthAnswer};
 use counts::count;
 use document::answer::Listing;
@@ -21,7 +18,7 @@ use scan::range;
 // The full check: whether memory follows the layout.
 #[unsafe(no_mangle)]
 pub extern "C" fn bp_check(pages: &[u64], rows: &[u32], blocks: &[u32], table: &[u64]) -> bool
-    ensures { let x = mem pages.now rows.now blocks.now table.now in Answers x check (whether (Is result)) }
+    ensures { let x = mem pages.now rows.now blocks.now table.now in Answers x check (whether (Ok result)) }
 {
     fullcheck::check(pages, rows, blocks, table)
 }
@@ -38,7 +35,7 @@ pub extern "C" fn bp_get(
     ensures { let x = mem pages.now rows.now blocks.now table.now in
         Coded truth_code (λ (a : Truth). Answers x (get id) (whether a)) result }
 {
-    answer::of_truth(read::get(pages, rows, blocks, table, id))
+    TruthAnswer::from(read::get(pages, rows, blocks, table, id))
 }
 
 // Whether a member lies in min to max, both included.
@@ -54,7 +51,7 @@ pub extern "C" fn bp_any_in_range(
     ensures { let x = mem pages.now rows.now blocks.now table.now in
         Coded truth_code (λ (a : Truth). Answers x (range_test min max) (whether a)) result }
 {
-    answer::of_truth(range::any_in_range(pages, rows, blocks, table, min, max))
+    TruthAnswer::from(range::any_in_range(pages, rows, blocks, table, min, max))
 }
 
 // The chunk that an id lives in, or none.
@@ -69,7 +66,7 @@ pub extern "C" fn bp_chunk_of(
     ensures { let x = mem pages.now rows.now blocks.now table.now in
         Coded perhaps_code (λ (a : Perhaps). Answers x (chunk_id id) (maybe a)) result }
 {
-    answer::of_perhaps(read::chunk_of(pages, rows, blocks, table, id))
+    OptionalAnswer::from(read::chunk_of(pages, rows, blocks, table, id))
 }
 
 // The members.
@@ -78,7 +75,7 @@ pub extern "C" fn bp_len(pages: &[u64], rows: &[u32], blocks: &[u32], table: &[u
     ensures { let x = mem pages.now rows.now blocks.now table.now in
         Coded amount_code (λ (a : Amount). Answers x len (many a)) result }
 {
-    answer::of_amount(count::len(pages, rows, blocks, table))
+    NumberAnswer::from(count::len(pages, rows, blocks, table))
 }
 
 // Whether there is no member.
@@ -92,7 +89,7 @@ pub extern "C" fn bp_is_empty(
     ensures { let x = mem pages.now rows.now blocks.now table.now in
         Coded truth_code (λ (a : Truth). Answers x is_empty (whether a)) result }
 {
-    answer::of_truth(count::is_empty(pages, rows, blocks, table))
+    TruthAnswer::from(count::is_empty(pages, rows, blocks, table))
 }
 
 // Whether there is a chunk, be it empty.
@@ -106,7 +103,7 @@ pub extern "C" fn bp_has_any(
     ensures { let x = mem pages.now rows.now blocks.now table.now in
         Coded truth_code (λ (a : Truth). Answers x has_any (whether a)) result }
 {
-    answer::of_truth(count::has_any(pages, rows, blocks, table))
+    TruthAnswer::from(count::has_any(pages, rows, blocks, table))
 }
 
 // The chunks, empty ones too.
@@ -120,7 +117,7 @@ pub extern "C" fn bp_allocated_chunk_count(
     ensures { let x = mem pages.now rows.now blocks.now table.now in
         Coded amount_code (λ (a : Amount). Answers x chunk_count (many a)) result }
 {
-    answer::of_amount(count::allocated_chunk_count(pages, rows, blocks, table))
+    NumberAnswer::from(count::allocated_chunk_count(pages, rows, blocks, table))
 }
 
 // The 64 smallest members not below start, or all if fewer. The record is C's own as it stands.
@@ -149,7 +146,7 @@ pub extern "C" fn bp_rank(
     ensures { let x = mem pages.now rows.now blocks.now table.now in
         Coded amount_code (λ (a : Amount). Answers x (rank_of id) (many a)) result }
 {
-    answer::of_amount(rank::rank(pages, rows, blocks, table, id))
+    NumberAnswer::from(rank::rank(pages, rows, blocks, table, id))
 }
 
 // The rank of a member; none for any other id.
@@ -164,7 +161,7 @@ pub extern "C" fn bp_rank_if_set(
     ensures { let x = mem pages.now rows.now blocks.now table.now in
         Coded perhaps_code (λ (a : Perhaps). Answers x (rank_if_set id) (maybe a)) result }
 {
-    answer::of_perhaps(rank::rank_if_set(pages, rows, blocks, table, id))
+    OptionalAnswer::from(rank::rank_if_set(pages, rows, blocks, table, id))
 }
 
 // The members of a ranked set, as ranking counted them.
@@ -178,5 +175,5 @@ pub extern "C" fn bp_total_count(
     ensures { let x = mem pages.now rows.now blocks.now table.now in
         Coded amount_code (λ (a : Amount). Answers x total_count (many a)) result }
 {
-    answer::of_amount(rank::total_count(pages, rows, blocks, table))
+    NumberAnswer::from(rank::total_count(pages, rows, blocks, table))
 }

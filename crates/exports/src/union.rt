@@ -1,11 +1,10 @@
 // Union: two sets, the destination's four slices first. Answer and memories after are those of the call that each wraps.
 ghost use Rattle.layout.specs.Mem.{mem};
 ghost use Rattle.document.specs.Union.{merge_from, merge};
-ghost use Rattle.document.specs.declared.answer.Outcome.{Outcome};
 ghost use Rattle.contracts.specs.Does.{Joins};
 ghost use Rattle.codes.specs.Codes.{Coded, outcome_code};
+ghost use Rattle.document.specs.Results.{Outcome};
 
-use codes::answer;
 use codes::answer::DoneAnswer;
 
 // The destination gets the source's members; the source is only read.
@@ -25,7 +24,7 @@ pub extern "C" fn bp_merge_from(
         let u = mem pages.new rows.new blocks.new table.new in
         Coded outcome_code (λ (a : Outcome). Joins x y merge_from a u y) result }
 {
-    answer::of_outcome(merging::merge_from(
+    DoneAnswer::from(merging::merge_from(
         pages, rows, blocks, table, spages, srows, sblocks, stable,
     ))
 }
@@ -48,5 +47,5 @@ pub extern "C" fn bp_merge(
         let v = mem spages.new srows.new sblocks.new stable.new in
         Coded outcome_code (λ (a : Outcome). Joins x y merge a u v) result }
 {
-    answer::of_outcome(merging::merge(pages, rows, blocks, table, spages, srows, sblocks, stable))
+    DoneAnswer::from(merging::merge(pages, rows, blocks, table, spages, srows, sblocks, stable))
 }

@@ -1,11 +1,10 @@
 // The calls that change a set, for C: each calls the entry of exports that it is named for, under that one's clauses.
 ghost use Rattle.layout.specs.Mem.{mem};
 ghost use Rattle.layout.specs.SetUp.{sizes_of};
-ghost use Rattle.document.specs.declared.answer.Outcome.{Outcome};
-ghost use Rattle.document.specs.declared.answer.Truth.{Truth};
 ghost use Rattle.document.specs.Calls.{insert, put, prepared, prepare, rank_up, leave, whether, that};
 ghost use Rattle.contracts.specs.Does.{Does, SetsUp};
 ghost use Rattle.codes.specs.Codes.{Coded, outcome_code, truth_code};
+ghost use Rattle.document.specs.Results.{Outcome, Truth};
 
 use codes::answer::{DoneAnswer, TruthAnswer};
 use exports::change;

@@ -1,9 +1,9 @@
 // Calls over a list of ids, for C: each calls the entry of exports that it is named for, under that one's clauses.
 ghost use Rattle.layout.specs.Mem.{mem};
-ghost use Rattle.document.specs.declared.answer.Outcome.{Outcome};
 ghost use Rattle.lists.specs.Lists.{get_all, rank_all, rank_if_all, AnswersAll};
 ghost use Rattle.lists.specs.Inserts.{InsertsAll};
 ghost use Rattle.codes.specs.Codes.{Coded, outcome_code};
+ghost use Rattle.document.specs.Results.{Outcome};
 
 use codes::answer::DoneAnswer;
 use exports::list;

@@ -2,9 +2,9 @@
 ghost use Rattle.std.specs.Prelude.{◌≡◌};
 ghost use Rattle.layout.specs.Mem.{mem};
 ghost use Rattle.document.specs.Spans.{in_partition, ids_answer, ranks_answer, range_meets};
-ghost use Rattle.document.specs.declared.plan.Planning.{Planning};
 ghost use Rattle.cuts.specs.Promise.{Plans};
 ghost use Rattle.codes.specs.Codes.{Coded, planning_code, spanned_code, ranks_code, plan_in, span_in};
+ghost use Rattle.document.specs.Results.{Planning};
 
 use codes::cut::{IntervalAnswer, PlanAnswer, RanksAnswer};
 use exports::partition;

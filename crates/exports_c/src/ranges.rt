@@ -1,9 +1,9 @@
 // The range list, for C: each calls the entry of exports that it is named for, under that one's clauses.
 ghost use Rattle.layout.specs.Mem.{mem};
 ghost use Rattle.document.specs.Spans.{ids_answer};
-ghost use Rattle.document.specs.declared.answer.Outcome.{Outcome};
 ghost use Rattle.range_list.specs.Marks.{EndsByRange, EndsByPartition};
 ghost use Rattle.codes.specs.Codes.{Coded, outcome_code, plan_in};
+ghost use Rattle.document.specs.Results.{Outcome};
 
 use codes::answer::DoneAnswer;
 use exports::ranges;

@@ -1,13 +1,11 @@
 // The calls that only read, for C: each calls the entry of exports that it is named for, under that one's clauses.
 ghost use Rattle.layout.specs.Mem.{mem};
-ghost use Rattle.document.specs.declared.answer.Truth.{Truth};
-ghost use Rattle.document.specs.declared.answer.Truth.TheVariants.{Is};
-ghost use Rattle.document.specs.declared.answer.Amount.{Amount};
-ghost use Rattle.document.specs.declared.answer.Perhaps.{Perhaps};
 ghost use Rattle.document.specs.Calls.{get, range_test, chunk_id, len, is_empty, has_any, chunk_count, iterate, rank_of, rank_if_set, total_count, check};
 ghost use Rattle.document.specs.Calls.{whether, many, maybe, listed};
 ghost use Rattle.contracts.specs.Does.{Answers};
 ghost use Rattle.codes.specs.Codes.{Coded, truth_code, amount_code, perhaps_code};
+ghost use Rattle.document.specs.Results.{Amount, Perhaps, Truth};
+ghost use Rattle.std.specs.Prelude.{Ok};
 
 use codes::answer::{NumberAnswer, OptionalAnswer, TruthAnswer};
 use document::answer::Listing;
@@ -16,7 +14,7 @@ use exports::read;
 // The full check: whether memory follows the layout.
 #[unsafe(no_mangle)]
 pub extern "C" fn bp_check(pages: &[u64], rows: &[u32], blocks: &[u32], table: &[u64]) -> bool
-    ensures { let x = mem pages.now rows.now blocks.now table.now in Answers x check (whether (Is result)) }
+    ensures { let x = mem pages.now rows.now blocks.now table.now in Answers x check (whether (Ok result)) }
 {
     read::bp_check(pages, rows, blocks, table)
 }

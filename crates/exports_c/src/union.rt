@@ -1,9 +1,9 @@
 // Union, for C: each calls the entry of exports that it is named for, under that one's clauses.
 ghost use Rattle.layout.specs.Mem.{mem};
 ghost use Rattle.document.specs.Union.{merge_from, merge};
-ghost use Rattle.document.specs.declared.answer.Outcome.{Outcome};
 ghost use Rattle.contracts.specs.Does.{Joins};
 ghost use Rattle.codes.specs.Codes.{Coded, outcome_code};
+ghost use Rattle.document.specs.Results.{Outcome};
 
 use codes::answer::DoneAnswer;
 use exports::union;

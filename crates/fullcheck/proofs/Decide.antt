@@ -1,7 +1,7 @@
 -- Each test decides its sentence of the rule, and with the walk they decide `Follows`. Assumes nothing.
 use mathlib.Core.Path.{◌≡◌, refl, sym, ◌∙◌, ap, ap₂, subst}
 use mathlib.Core.List.{List}
-use mathlib.Core.Bool.{Bool, true, false, ◌&&◌, and-true, and-false}
+use mathlib.Core.Bool.{Bool, true, false, ◌&&◌}
 use Prim.Native.Nat.{ℕ, ◌+◌, ◌-◌, ◌*◌, ◌≤◌, ◌<◌}
 use native.Mathlib.Omega.{arith}
 use lib.ListN.{get_or}
@@ -10,7 +10,6 @@ use Rattle.sums.specs.Rules.{all_to, Decides}
 use Rattle.sums.proofs.Rules.{all_of, and_of, unless_of, if_of, same_of, leb_of, ltb_of, eqb_of}
 use Rattle.dense.specs.Bits.{bits_to}
 use Rattle.document.specs.Calls.{check, whether}
-use Rattle.document.specs.declared.answer.Truth.TheVariants.{Is}
 use Rattle.contracts.specs.Does.{Answers}
 use Rattle.contracts.proofs.Readings.{answers}
 use Rattle.layout.specs.Mem.{Mem}
@@ -25,7 +24,8 @@ use Rattle.layout_laws.proofs.Walked.{laid_walked}
 use Rattle.document.specs.declared.sizes.Sizes.{Sizes}
 use Rattle.layout.specs.declared.place.Place.{Place}
 use Rattle.layout.specs.declared.place.Place.TheVariants.{Absent, Sparse, Dense}
-use Rattle.fullcheck.specs.Check.{WalkShown, BlocksShown, offset_is, list_is, list_at, row_is, free_row_is, free_page_is, size_of_entry, prefix_is, total_is, block_is, page_blocks, rows_are, ranks_are, rest_is, checked}
+use Rattle.fullcheck.specs.Check.{offset_is, list_is, list_at, row_is, free_row_is, free_page_is, size_of_entry, prefix_is, total_is, block_is, page_blocks, rows_are, ranks_are, rest_is, checked}
+use Rattle.std.specs.Prelude.{Ok}
 
 -- ---- rows
 
@@ -111,35 +111,12 @@ module _ (h : Sizes) (x : Mem) where
       })
       (λ f. ((((f.lists, f.free_rows), f.free_pages), (f.prefixes, f.total)), λ p l b m. f.blocks p b l m))
 
--- ---- the rest, by slice
-
-module _ (x : Mem) (h : Sizes) where
-  pub sound_of : Walked x h → WalkShown h x.table
-  sound_of w = record { sizes = w.sizes; in_table = w.room.in_table; over_fits = w.over_fits; places = w.places }
-
-  pub rest_passes : (b d e f : Bool) → b ≡ rows_are h x.rows x.table → d ≡ all_to (free_page_is h x.pages x.table) h.p → e ≡ ranks_are h x.pages x.table → f ≡ all_to (page_blocks h x.pages x.blocks (ranked_at x.table)) h.p → (b && d && e && f) ≡ rest_is h x
-  unfolding rest_is
-  rest_passes b d e f q r s t = ap₂ ◌&&◌ (ap₂ ◌&&◌ (ap₂ ◌&&◌ q r) s) t
-
-  -- the test of the block counts, asked first
-  module _ {f : Bool} (t : f ≡ all_to (page_blocks h x.pages x.blocks (ranked_at x.table)) h.p) where
-    pub blocks_no : f ≡ false → false ≡ rest_is h x
-    blocks_no n =
-        let others = rows_are h x.rows x.table && all_to (free_page_is h x.pages x.table) h.p && ranks_are h x.pages x.table in
-        sym (and-false others) ∙ rest_passes _ _ _ false refl refl refl (sym n ∙ t)
-
-    pub blocks_yes : f ≡ true → (b d e : Bool) → b ≡ rows_are h x.rows x.table → d ≡ all_to (free_page_is h x.pages x.table) h.p → e ≡ ranks_are h x.pages x.table → (b && d && e) ≡ rest_is h x
-    blocks_yes y b d e q r s = sym (and-true (b && d && e)) ∙ rest_passes b d e true q r s (sym y ∙ t)
-
-    pub blocks_shown : Walked x h → f ≡ true → BlocksShown h x.pages x.blocks (ranked_at x.table)
-    blocks_shown w y = record { in_pages = w.room.in_pages; in_blocks = w.room.in_blocks; right = sym t ∙ y }
-
 -- ---- the whole check
 
 -- Q asks for P, and b decides Q where P holds
 then_sound : (a b : Bool) {P Q : Type 0} → Decides a P → (P → Decides b Q) → (a && b) ≡ true → Q
 then_sound true b d e h = (e (d.sound refl)).sound h
-then_sound false b d e h = absurd (let z : ◌≡◌ {A = ℕ} 0 1 = cc in omega arith)
+then_sound false b d e h = absurd cc
 
 then_of : {a b : Bool} {P Q : Type 0} → Decides a P → (P → Decides b Q) → (Q → P) → Decides (a && b) Q
 then_of {a} {b} d e f = record {
@@ -154,14 +131,14 @@ follows_of x = then_of (walked_of x) (laid_of (head x) x) laid_walked
 decided : (x : Mem) (b : Bool) → b ≡ checked x → Decides b (Follows x)
 decided x b e = record { sound = λ h. (follows_of x).sound (sym e ∙ h); whole = λ f. e ∙ (follows_of x).whole f }
 
-pub answered : (x : Mem) (b : Bool) → b ≡ checked x → Answers x check (whether (Is b))
+pub answered : (x : Mem) (b : Bool) → b ≡ checked x → Answers x check (whether (Ok b))
 answered x b e = answers x check (record { yes = b; said = refl; decides = decided x b e })
 
 -- what the walk answered, and the sizes read as h
 module _ (x : Mem) (a : Bool) (p : a ≡ walked x) where
-  pub walk_no : a ≡ false → false ≡ checked x
+  pub walk_no : a ≡ false → a ≡ checked x
   unfolding checked
-  walk_no n = ap (λ (b : Bool). b && rest_is (head x) x) (sym n ∙ p)
+  walk_no n = n ∙ ap (λ (b : Bool). b && rest_is (head x) x) (sym n ∙ p)
 
   module _ (h : Sizes) (e : h ≡ head x) (y : a ≡ true) where
     pub walk_yes : Walked x h

@@ -1,11 +1,11 @@
 -- Running sums: what a set keeps of a count, members of entries and of blocks, and what a turn of each loop adds. Assumes nothing.
 use mathlib.Core.Path.{◌≡◌, refl, sym, ◌∙◌, ap, ap₂}
 use mathlib.Core.List.{List}
-use mathlib.Core.Bool.{Bool, true, false, ◌&&◌}
-use Prim.Native.Nat.{ℕ, ◌+◌, ◌-◌, ◌*◌, ◌≤◌, ◌<◌}
+use mathlib.Core.Bool.{Bool, true, false}
+use Prim.Native.Nat.{ℕ, suc, ◌+◌, ◌-◌, ◌*◌, ◌≤◌, ◌<◌}
+use native.Mathlib.Nat.{mul-le-mul_right, suc-mul}
 use native.Mathlib.Omega.{arith}
 use lib.ListN.{length, get_or, take, drop, length-take, length-drop}
-use lib.Dec.{eqb}
 use Rattle.sums.specs.Sums.{sum_to}
 use Rattle.sums.specs.Rules.{all_to}
 use Rattle.sums.proofs.Sums.{sum_zero, sum_next}
@@ -15,24 +15,15 @@ use Rattle.dense.specs.Bits.{bits_to}
 use Rattle.dense.proofs.Counts.{bits_zero, bits_le}
 use Rattle.dense.proofs.Parts.{bits_part}
 use Rattle.document.specs.Sizes.{InRange, top}
-use Rattle.layout.specs.Sizes.{wide, blocks_of, total_at}
+use Rattle.layout.specs.Sizes.{wide, blocks_of}
 use Rattle.layout.specs.Places.{page_part}
-use Rattle.layout.specs.Entries.{entries, chunk_at, prefix_at, place_at}
+use Rattle.layout.specs.Entries.{entries, chunk_at, place_at}
 use Rattle.layout.specs.Follows.{size_of}
-use Rattle.layout.specs.Tests.{ranked_at}
 use Rattle.layout_laws.proofs.Walked.{size_small}
 use Rattle.document.specs.declared.sizes.Sizes.{Sizes}
-use Rattle.layout.specs.declared.place.Place.{Place}
-use Rattle.fullcheck.specs.Check.{WalkShown, BlocksShown, size_of_entry, kept_if, prefix_is, total_is, ranks_are, block_is, page_blocks}
-use Rattle.fullcheck.proofs.Ways.{part_inside}
+use Rattle.fullcheck.specs.Check.{WalkShown, BlocksShown, size_of_entry, kept_if, block_is, page_blocks}
 
 -- ---- what is kept of a count
-
-pub kept_no : (r : Bool) (n : ℕ) → r ≡ false → 0 ≡ kept_if r n
-kept_no r n e = ap (λ (b : Bool). kept_if b n) (sym e)
-
-pub kept_yes : (r : Bool) (n : ℕ) {k : ℕ} → r ≡ true → k ≡ n → k ≡ kept_if r n
-kept_yes r n e d = d ∙ ap (λ (b : Bool). kept_if b n) (sym e)
 
 kept_add : (r : Bool) (a b : ℕ) → kept_if r a + kept_if r b ≡ kept_if r (a + b)
 kept_add true a b = refl
@@ -49,28 +40,12 @@ kept_le false a n l = omega arith
 -- ---- members
 
 module _ (h : Sizes) (pages t : List ℕ) (r : Bool) (e : ℕ) where
-  -- an entry's place q, found to be p
-  pub size_passes : {q : Place} {k : ℕ} → q ≡ place_at h t e → (p : Place) → q ≡ p → k ≡ size_of h pages p → k ≡ size_of_entry h pages t e
-  unfolding size_of_entry
-  size_passes s p f d = d ∙ ap (size_of h pages) (sym f ∙ s)
-
   pub size_le : WalkShown h t → e < entries h t → kept_if r (size_of_entry h pages t e) ≤ 33554432
   unfolding size_of_entry
   size_le o l = kept_le r (size_of h pages (place_at h t e)) 33554432 (size_small h pages t o.sizes (chunk_at h t e) (place_at h t e) (o.places e l))
 
   pub size_more : (s k : ℕ) → s ≡ kept_if r (sum_to (size_of_entry h pages t) e) → k ≡ kept_if r (size_of_entry h pages t e) → s + k ≡ kept_if r (sum_to (size_of_entry h pages t) (e + 1))
   size_more s k p q = ap₂ ◌+◌ p q ∙ (kept_add r (sum_to (size_of_entry h pages t) e) (size_of_entry h pages t e) ∙ ap (kept_if r) (sym (sum_next (size_of_entry h pages t) e)))
-
-  pub prefix_passes : (n s : ℕ) → r ≡ ranked_at t → n ≡ prefix_at h t e → s ≡ kept_if r (sum_to (size_of_entry h pages t) e) → eqb n s ≡ prefix_is h pages t e
-  unfolding prefix_is
-  prefix_passes n s m p q = ap₂ eqb p (q ∙ ap (λ (b : Bool). kept_if b (sum_to (size_of_entry h pages t) e)) m)
-
-  -- e is the last, and past it
-  pub ranks_pass : (a : Bool) (n s : ℕ) → r ≡ ranked_at t → e ≡ entries h t → a ≡ all_to (prefix_is h pages t) e → n ≡ total_at t → s ≡ kept_if r (sum_to (size_of_entry h pages t) e) → (a && eqb n s) ≡ ranks_are h pages t
-  unfolding ranks_are total_is
-  ranks_pass a n s m f p q w =
-      ap₂ ◌&&◌ (p ∙ ap (all_to (prefix_is h pages t)) f)
-      (ap₂ eqb q (w ∙ ap₂ (λ (b : Bool) (k : ℕ). kept_if b (sum_to (size_of_entry h pages t) k)) m f))
 
 pub size_none : (h : Sizes) (pages t : List ℕ) (r : Bool) → 0 ≡ kept_if r (sum_to (size_of_entry h pages t) 0)
 size_none h pages t r = kept_zero r (sum_to (size_of_entry h pages t) 0) (sum_zero (size_of_entry h pages t))
@@ -91,10 +66,6 @@ module _ (page : List ℕ) (r : Bool) where
       let g : bits_to page (512 * (b + 1)) ≡ bits_to page (512 * b) + bits_to (take 8 (drop (8 * b) page)) 512 = sym (ap (bits_to page) f) ∙ (bits_part (8 * b) 8 page 512 (omega arith) ∙ ap (λ (n : ℕ). bits_to page n + bits_to (take 8 (drop (8 * b) page)) 512) e) in
       ap₂ ◌+◌ p q ∙ (kept_add r (bits_to page (512 * b)) (bits_to (take 8 (drop (8 * b) page)) 512) ∙ ap (kept_if r) (sym g))
 
-  pub block_passes : (blocks : List ℕ) (a b m n s : ℕ) → n ≡ m → m ≡ get_or blocks (a + b) 0 → s ≡ kept_if r (bits_to page (512 * b)) → eqb n s ≡ block_is page blocks r a b
-  unfolding block_is
-  block_passes blocks a b m n s p q w = ap₂ eqb (p ∙ q) w
-
 -- the counts of a page, n from a on, where they are right: the last one, read as m, and what the last block adds
 module _ (page blocks : List ℕ) (a n : ℕ) (right : all_to (block_is page blocks true a) n ≡ true) where
   count_at : (b : ℕ) → b < n → get_or blocks (a + b) 0 ≡ bits_to page (512 * b)
@@ -105,6 +76,10 @@ module _ (page blocks : List ℕ) (a n : ℕ) (right : all_to (block_is page blo
   members_are m w k s p q r =
       let e : 512 * (n - 1 + 1) ≡ 512 * n = omega arith in
       block_more page true (n - 1) w k (p ∙ q ∙ count_at (n - 1) (omega arith)) r ∙ ap (bits_to page) e
+
+-- part p of n parts of w elements
+pub part_inside : (p n w len : ℕ) → p < n → n * w ≤ len → p * w + w ≤ len
+part_inside p n w len l h = let a : suc p * w ≤ n * w = mul-le-mul_right w (let s : suc p ≤ n = omega arith in s) in omega (arith, suc-mul p w)
 
 -- page p, read as q, and its n counts from d on
 module _ (h : Sizes) (pages blocks : List ℕ) (p : ℕ) {q : List ℕ} {d n : ℕ} (e : q ≡ page_part h pages p) (f : d ≡ p * blocks_of h) (g : n ≡ blocks_of h) where

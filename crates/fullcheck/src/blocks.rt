@@ -12,7 +12,7 @@ use crate::pages;
 use dense::block;
 use document::sizes::Sizes;
 use layout::head;
-use numbers::{element, order, power};
+use numbers::{element, power};
 
 // What block b of a page adds to the running count.
 pub fn block_if(page: &[u64], ranked: bool, b: u64) -> u64
@@ -27,22 +27,22 @@ pub fn block_if(page: &[u64], ranked: bool, b: u64) -> u64
 }
 
 // The n counts from a on are those of the page's blocks.
+#[tactic(auto, using(sums::proofs::Rules::all_none, sums::proofs::Rules::all_more, crate::proofs::Running::block_none, crate::proofs::Running::block_more, crate::proofs::Running::block_le), unfolding(crate::specs::Check::block_is))]
 pub fn page_blocks(page: &[u64], blocks: &[u32], ranked: bool, a: u64, n: u64) -> bool
     requires { (8 * n ≤ length page.now) × (a + n ≤ length blocks.now) × (n ≤ 65536) }
     ensures { result ≡ all_to (block_is page.now blocks.now ranked a) n }
 {
     let mut ok = true;
     let mut sum: u64 = 0;
-    let mut b: u64 = 0;
-    while b < n {
-        ok = ok & (order::wide(element::at32(blocks, a + b)) == sum);
+    for b in 0..n {
+        ok &= u64::from(element::at(blocks, a + b, 0)) == sum;
         sum += block_if(page, ranked, b);
-        b += 1;
     }
     ok
 }
 
 // The same of page p of the pool.
+#[tactic(auto, unfolding(crate::specs::Check::page_blocks))]
 pub fn blocks_in(pages: &[u64], blocks: &[u32], h: Sizes, ranked: bool, p: u64) -> bool
     requires { InRange h × (p < h.p) × (h.p * wide h ≤ length pages.now) × (h.p * blocks_of h ≤ length blocks.now) }
     ensures { result ≡ page_blocks h pages.now blocks.now ranked p }
@@ -58,17 +58,15 @@ pub fn blocks_in(pages: &[u64], blocks: &[u32], h: Sizes, ranked: bool, p: u64) 
 }
 
 // Sentence 16, of every page.
+#[tactic(auto, using(sums::proofs::Rules::all_none, sums::proofs::Rules::all_more))]
 pub fn blocks_are(pages: &[u64], blocks: &[u32], table: &[u64], h: Sizes) -> bool
     requires { InRange h × (h.p * wide h ≤ length pages.now) × (h.p * blocks_of h ≤ length blocks.now) }
     ensures { result ≡ all_to (page_blocks h pages.now blocks.now (ranked_at table.now)) h.p }
 {
     let ranked = head::mode(table) == head::RANKED;
-    let n = h.p;
     let mut ok = true;
-    let mut p: u64 = 0;
-    while p < n {
-        ok = ok & blocks_in(pages, blocks, h, ranked, p);
-        p += 1;
+    for p in 0..h.p {
+        ok &= blocks_in(pages, blocks, h, ranked, p);
     }
     ok
 }
@@ -80,7 +78,7 @@ pub fn page_members(page: &[u64], blocks: &[u32], a: u64, n: u64) -> u64
     ensures { result ≡ bits_to page.now (512 * n) }
 {
     let b = n - 1;
-    order::wide(element::at32(blocks, a + b)) + block_if(page, true, b)
+    u64::from(element::at(blocks, a + b, 0)) + block_if(page, true, b)
 }
 
 // The same of page p of the pool.

@@ -10,6 +10,7 @@ use layout::place::Place;
 use layout::{entry, head};
 
 // Members of entry e.
+#[tactic(auto, unfolding(crate::specs::Check::size_of_entry))]
 pub fn size_at(pages: &[u64], blocks: &[u32], table: &[u64], h: Sizes, e: u64) -> u64
     requires { WalkShown h table.now × BlocksShown h pages.now blocks.now true × (e < entries h table.now) }
     ensures { result ≡ size_of_entry h pages.now table.now e }
@@ -33,6 +34,7 @@ pub fn size_if(pages: &[u64], blocks: &[u32], table: &[u64], h: Sizes, ranked: b
 }
 
 // Sentences 14 and 15.
+#[tactic(auto, using(sums::proofs::Rules::all_none, sums::proofs::Rules::all_more, crate::proofs::Running::size_none, crate::proofs::Running::size_more, crate::proofs::Running::size_le), unfolding(crate::specs::Check::ranks_are, crate::specs::Check::total_is, crate::specs::Check::prefix_is))]
 pub fn ranks_are(pages: &[u64], blocks: &[u32], table: &[u64], h: Sizes) -> bool
     requires { WalkShown h table.now × BlocksShown h pages.now blocks.now (ranked_at table.now) }
     ensures { result ≡ ranks_are h pages.now table.now }
@@ -41,11 +43,9 @@ pub fn ranks_are(pages: &[u64], blocks: &[u32], table: &[u64], h: Sizes) -> bool
     let n = h.d + head::over_count(table);
     let mut ok = true;
     let mut sum: u64 = 0;
-    let mut e: u64 = 0;
-    while e < n {
-        ok = ok & (entry::prefix_at(table, h, e) == sum);
+    for e in 0..n {
+        ok &= entry::prefix_at(table, h, e) == sum;
         sum += size_if(pages, blocks, table, h, ranked, e);
-        e += 1;
     }
     ok & (head::total(table) == sum)
 }

@@ -6,11 +6,10 @@ mod counts;
 mod pages;
 mod rows;
 
-ghost use Rattle.std.specs.Prelude.{◌≡◌};
+ghost use Rattle.std.specs.Prelude.{◌≡◌, Ok};
 ghost use Rattle.layout.specs.Mem.{mem};
 ghost use Rattle.layout.specs.Tests.{Walked};
 ghost use Rattle.document.specs.Calls.{check, whether};
-ghost use Rattle.document.specs.declared.answer.Truth.TheVariants.{Is};
 ghost use Rattle.contracts.specs.Does.{Answers};
 ghost use Rattle.fullcheck.specs.Check.{rest_is};
 
@@ -19,6 +18,7 @@ use layout::head;
 use layout_walk::walk;
 
 // What the walk over the table leaves of the rule. Block counts come first: where they are right, members are read from them, and no word is counted twice.
+#[tactic(auto, unfolding(crate::specs::Check::rest_is))]
 fn rest_is(pages: &[u64], rows: &[u32], blocks: &[u32], table: &[u64], h: Sizes) -> bool
     requires { Walked (mem pages.now rows.now blocks.now table.now) h }
     ensures { result ≡ rest_is h (mem pages.now rows.now blocks.now table.now) }
@@ -33,10 +33,7 @@ fn rest_is(pages: &[u64], rows: &[u32], blocks: &[u32], table: &[u64], h: Sizes)
 
 // Yes exactly when memory follows the layout.
 pub fn check(pages: &[u64], rows: &[u32], blocks: &[u32], table: &[u64]) -> bool
-    ensures { let x = mem pages.now rows.now blocks.now table.now in Answers x check (whether (Is result)) }
+    ensures { let x = mem pages.now rows.now blocks.now table.now in Answers x check (whether (Ok result)) }
 {
-    if !walk::walk(pages, rows, blocks, table) {
-        return false;
-    }
-    rest_is(pages, rows, blocks, table, head::read(table))
+    walk::walk(pages, rows, blocks, table) && rest_is(pages, rows, blocks, table, head::read(table))
 }

@@ -17,32 +17,28 @@ pub fn part(pages: &[u64], h: Sizes, p: u64) -> &[u64]
     ensures { result.now ≡ page_part h pages.now p }
 {
     let a = head::page_at(h, p) as usize;
-    let e = a + power::pow2(h.s - 6) as usize;
-    &pages[a..e]
+    &pages[a..a + power::pow2(h.s - 6) as usize]
 }
 
 // A page without an owner holds zeros.
+#[tactic(auto, unfolding(crate::specs::Check::free_page_is, layout::specs::Tests::zeros, layout::specs::Tests::zero_at))]
 pub fn free_page(pages: &[u64], table: &[u64], h: Sizes, p: u64) -> bool
     requires { InRange h × (p < h.p) × (h.p * wide h ≤ length pages.now) }
     ensures { result ≡ free_page_is h pages.now table.now p }
 {
-    if entry::page_owner(table, h, p) != 0 {
-        return true;
-    }
-    zeros::zeros64(pages, head::page_at(h, p), power::pow2(h.s - 6))
+    entry::page_owner(table, h, p) != 0
+        || zeros::all_are(pages, head::page_at(h, p), power::pow2(h.s - 6), 0)
 }
 
 // Sentence 12, of every page.
+#[tactic(auto, using(sums::proofs::Rules::all_none, sums::proofs::Rules::all_more))]
 pub fn free_pages(pages: &[u64], table: &[u64], h: Sizes) -> bool
     requires { InRange h × (h.p * wide h ≤ length pages.now) }
     ensures { result ≡ all_to (free_page_is h pages.now table.now) h.p }
 {
-    let n = h.p;
     let mut ok = true;
-    let mut p: u64 = 0;
-    while p < n {
-        ok = ok & free_page(pages, table, h, p);
-        p += 1;
+    for p in 0..h.p {
+        ok &= free_page(pages, table, h, p);
     }
     ok
 }

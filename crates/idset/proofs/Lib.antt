@@ -1,2 +1,1 @@
 pub mod Gets
-pub mod Promises

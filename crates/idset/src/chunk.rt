@@ -5,13 +5,11 @@ ghost use Rattle.layout.specs.Sizes.{header_at};
 ghost use Rattle.layout.specs.Short.{word_in};
 ghost use Rattle.calls.specs.Reading.{spot_if, has_at};
 
-use document::answer::Truth;
-use document::refusal;
-use layout::find::Word;
+use document::refusal::Refusal;
 use layout::{find, head, part};
 
 // Chunk c's word: a direct entry's without a call.
-fn word(table: &[u64], c: u64) -> Word
+fn word(table: &[u64], c: u64) -> Result<u64, Refusal>
     requires { c < 2 ^ 62 }
     ensures { result ≡ word_in table.now c }
 {
@@ -30,13 +28,11 @@ pub fn has(
     s: u64,
     c: u64,
     o: u64,
-) -> Truth
+) -> Result<bool, Refusal>
     requires { (9 ≤ s) × (s ≤ 25) × (s ≡ (header_at table.now).s) × (c < 2 ^ 62) × (o < 2 ^ s) }
     ensures { let x = mem pages.now rows.now blocks.now table.now in
         result ≡ has_at x o (spot_if x (word_in x.table c)) }
 {
-    let Word::Is(w) = word(table, c) else {
-        return Truth::Refused(refusal::NOT_LAID_OUT);
-    };
+    let w = word(table, c)?;
     part::has(pages, rows, find::spot_of(pages, rows, table, w), o)
 }

@@ -3,7 +3,7 @@ ghost use Rattle.layout.specs.Mem.{mem};
 ghost use Rattle.layout.specs.SetUp.{sizes_of};
 ghost use Rattle.contracts.specs.Does.{SetsUp};
 
-use document::answer::Outcome;
+use document::refusal::Refusal;
 use document::sizes::Sizes;
 use layout_writes::setup as lent;
 
@@ -19,22 +19,19 @@ pub fn set_up(
     rows: &mut [u32],
     blocks: &mut [u32],
     table: &mut [u64],
-) -> Outcome
+) -> Result<(), Refusal>
     ensures { let x = mem pages.old rows.old blocks.old table.old in
         let y = mem pages.new rows.new blocks.new table.new in
         SetsUp (sizes_of s m d v r p) x result y }
 {
     let h = Sizes { s, m, d, v, r, p };
-    let k = lent::refusal(
+    lent::allowed(
         h,
         pages.len() as u64,
         rows.len() as u64,
         blocks.len() as u64,
         table.len() as u64,
-    );
-    if k != 0 {
-        return Outcome::Refused(k);
-    }
+    )?;
     lent::make_fresh(h, pages, rows, blocks, table);
-    Outcome::Done
+    Ok(())
 }

@@ -1,10 +1,10 @@
 -- When a plan can be carried out: every row and page that it writes lies inside its slice.
-use Rattle.std.specs.Prelude.{List, ℕ, ◌+◌, ◌*◌, ◌^◌, ◌≤◌, ◌<◌, length}
+use Rattle.std.specs.Prelude.{List, ℕ, ◌+◌, ◌*◌, ◌^◌, ◌≤◌, ◌<◌, length, Ok, Err}
 use Rattle.document.specs.Sizes.{InRange, top}
 use Rattle.layout.specs.Sizes.{wide, header_at, over_count}
 use Rattle.document.specs.declared.sizes.Sizes.{Sizes}
-use Rattle.calls.specs.declared.plan.Plan.{Plan}
-use Rattle.calls.specs.declared.plan.Plan.TheVariants.{Refuse, Known, Mark, Enter, Begin, Turn}
+use Rattle.calls.specs.Planned.{InsertPlan}
+use Rattle.calls.specs.declared.plan.Plan.TheVariants.{Begin, Enter, Known, Mark, Turn}
 
 -- row r, which a word names, with its l members
 pub record RowReady (rows : List ℕ) (r l : ℕ) (h : Sizes) : Type 0 where
@@ -47,10 +47,10 @@ pub record TurnReady (pages rows t : List ℕ) (c o r l p : ℕ) (h : Sizes) : T
   pub chunk : c < 2 ^ 62
   pub offset : o < top h
 
-abbrev pub Ready : List ℕ → List ℕ → List ℕ → ℕ → ℕ → Plan → Type 0
-Ready pages rows t c o (Refuse n) = Unit
-Ready pages rows t c o Known = Unit
-Ready pages rows t c o (Mark p) = MarkReady pages o p (header_at t)
-Ready pages rows t c o (Enter r l k) = EnterReady rows t c o r l k (header_at t)
-Ready pages rows t c o (Begin r) = BeginReady rows t c o r (header_at t)
-Ready pages rows t c o (Turn r l p) = TurnReady pages rows t c o r l p (header_at t)
+abbrev pub Ready : List ℕ → List ℕ → List ℕ → ℕ → ℕ → InsertPlan → Type 0
+Ready pages rows t c o (Err n) = Unit
+Ready pages rows t c o (Ok Known) = Unit
+Ready pages rows t c o (Ok (Mark p)) = MarkReady pages o p (header_at t)
+Ready pages rows t c o (Ok (Enter r l k)) = EnterReady rows t c o r l k (header_at t)
+Ready pages rows t c o (Ok (Begin r)) = BeginReady rows t c o r (header_at t)
+Ready pages rows t c o (Ok (Turn r l p)) = TurnReady pages rows t c o r l p (header_at t)

@@ -1,17 +1,14 @@
 -- An offset that comes behind a row's members: it has a place there, and the append is what the insert does. Assumes nothing.
 use mathlib.Core.Path.{◌≡◌, ◌∙◌}
 use mathlib.Core.List.{List}
-use mathlib.Core.Bool.{true, false}
+use mathlib.Core.Bool.{true}
 use Prim.Native.Nat.{ℕ, ◌+◌, ◌^◌, ◌≤◌, ◌<◌}
 use native.Mathlib.Omega.{arith}
 use lib.ListN.{length, set}
-use Rattle.document.specs.declared.answer.Truth.TheVariants as truth
 use Rattle.layout.specs.Mem.{Mem, mem}
 use Rattle.layout.specs.Sizes.{header_at}
 use Rattle.layout.specs.Short.{word_in}
 use Rattle.layout.specs.Writes.{put_word}
-use Rattle.layout.specs.declared.find.Word.TheVariants as word
-use Rattle.layout.specs.declared.find.Spot.TheVariants.{Row}
 use Rattle.layout.specs.declared.place.Place.TheVariants.{Sparse}
 use Rattle.calls.specs.Reading.{spot_by}
 use Rattle.calls.specs.Insert.{insert_plan, acted, told}
@@ -20,12 +17,11 @@ use Rattle.calls.proofs.Plans.{sparse_word, sparse_below}
 use Rattle.insert_writes.proofs.Appends.{append_acts}
 use Rattle.insert_ways.specs.Ways.{Next}
 use Rattle.insert_ways.proofs.Chunks.{put_place}
-
-pub next_not : (rows : List ℕ) (a n l o : ℕ) → false ≡ true → Next rows a n l o
-next_not rows a n l o e = absurd (let z : ◌≡◌ {A = ℕ} 0 1 = cc in omega arith)
+use Rattle.layout.specs.declared.find.Spot.TheVariants.{Row}
+use Rattle.std.specs.Prelude.{Ok}
 
 -- the row that a word names
-module _ (x : Mem) (w a n l : ℕ) (e : Row a n l ≡ spot_by x w) where
+module _ (x : Mem) (w a n l : ℕ) (e : Ok (Row a n l) ≡ spot_by x w) where
   at : RowAt x w a n l
   at = row_at x w a n l e
 
@@ -48,9 +44,9 @@ module _ (x : Mem) (w a n l : ℕ) (e : Row a n l ≡ spot_by x w) where
         let s = within.small in
         omega arith
 
-module _ (pages rows b t : List ℕ) (c o w : ℕ) (f : word.Is w ≡ word_in t c) (a n l : ℕ) (e : Row a n l ≡ spot_by (mem pages rows b t) w) (i : Next rows a n l o) where
+module _ (pages rows b t : List ℕ) (c o w : ℕ) (f : Ok w ≡ word_in t c) (a n l : ℕ) (e : Ok (Row a n l) ≡ spot_by (mem pages rows b t) w) (i : Next rows a n l o) where
   pub append_told : (s u : List ℕ) → s ≡ set rows (a + l) o → u ≡ put_word (header_at t) t c (w + 1)
-      → told (truth.Is true) (mem pages s b u) ≡ acted (mem pages rows b t) c o (insert_plan (mem pages rows b t) c o)
+      → told (Ok true) (mem pages s b u) ≡ acted (mem pages rows b t) c o (insert_plan (mem pages rows b t) c o)
   append_told s u p q =
       let x = mem pages rows b t in
       let r = at x w a n l e in

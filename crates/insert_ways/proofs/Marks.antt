@@ -14,10 +14,10 @@ use Rattle.dense.proofs.Bits.{is_set_one}
 use Rattle.layout.specs.Mem.{mem}
 use Rattle.layout.specs.Sizes.{wide, header_at}
 use Rattle.layout.specs.Places.{page_part}
-use Rattle.document.specs.declared.answer.Truth.TheVariants as truth
 use Rattle.layout.specs.Writes.{put_part, put_page}
 use Rattle.calls.specs.Insert.{mark_plan, acted, told}
 use Rattle.calls.specs.declared.plan.Plan.TheVariants.{Known, Mark}
+use Rattle.std.specs.Prelude.{Ok}
 
 -- ---- a bit that is set already
 
@@ -56,11 +56,11 @@ module _ (pages rows b t : List ℕ) (c o q a n : ℕ) (ea : a ≡ q * wide (hea
   put : p ≡ put_page (header_at t) pages q (with_bit page o)
   put = f ∙ ap₂ (λ (i j : ℕ). put_part pages i j (with_bit (take j (drop i pages)) o)) ea en
 
-  marked_if : (v : Bool) → is_set page o ≡ v → told (truth.Is k) (mem p rows b t) ≡ acted (mem pages rows b t) c o (cond v Known (Mark q))
+  marked_if : (v : Bool) → is_set page o ≡ v → told (Ok k) (mem p rows b t) ≡ acted (mem pages rows b t) c o (cond v (Ok Known) (Ok (Mark q)))
   marked_if true g =
-      ap₂ (λ (i : Bool) (u : List ℕ). told (truth.Is i) (mem u rows b t)) (answered ∙ ap not g)
+      ap₂ (λ (i : Bool) (u : List ℕ). told (Ok i) (mem u rows b t)) (answered ∙ ap not g)
       (put ∙ (ap (put_page (header_at t) pages q) (with_same page o g) ∙ put_same pages (q * wide (header_at t)) (wide (header_at t))))
-  marked_if false g = ap₂ (λ (i : Bool) (u : List ℕ). told (truth.Is i) (mem u rows b t)) (answered ∙ ap not g) put
+  marked_if false g = ap₂ (λ (i : Bool) (u : List ℕ). told (Ok i) (mem u rows b t)) (answered ∙ ap not g) put
 
-  pub page_marked : told (truth.Is k) (mem p rows b t) ≡ acted (mem pages rows b t) c o (mark_plan (mem pages rows b t) o q)
+  pub page_marked : told (Ok k) (mem p rows b t) ≡ acted (mem pages rows b t) c o (mark_plan (mem pages rows b t) o q)
   page_marked = marked_if (is_set page o) refl

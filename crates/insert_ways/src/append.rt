@@ -6,9 +6,9 @@ ghost use Rattle.calls.specs.Insert.{insert_plan, acted, insert_by};
 ghost use Rattle.insert_ways.specs.Ways.{Next, Appends};
 
 use insert_plan::gate;
-use layout::find::{Spot, Word};
+use layout::find::Spot;
 use layout::{find, head};
-use numbers::{Split, id as ids};
+use numbers::id as ids;
 
 // Offset o is above the last of the row's l members, and the row, n places from a on, has room.
 fn is_next(rows: &[u32], a: usize, n: usize, l: usize, o: u64) -> bool
@@ -42,10 +42,10 @@ pub fn into(
     if head::direct(table) <= c {
         return false;
     }
-    let Word::Is(w) = find::direct_word(table, c) else {
+    let Ok(w) = find::direct_word(table, c) else {
         return false;
     };
-    let Spot::Row(a, n, l) = find::spot_of(pages, rows, table, w) else {
+    let Ok(Spot::Row(a, n, l)) = find::spot_of(pages, rows, table, w) else {
         return false;
     };
     if !is_next(rows, a, n, l, o) {
@@ -56,6 +56,7 @@ pub fn into(
 }
 
 // An id. The first test spares a test for each header word.
+#[tactic(auto, unfolding(insert_plan::specs::Gate::admission, calls::specs::Insert::insert_by))]
 pub fn put(pages: &[u64], rows: &mut [u32], blocks: &[u32], table: &mut [u64], id: i64) -> bool
     ensures { let x = mem pages.now rows.old blocks.now table.old in
         let y = mem pages.now rows.new blocks.now table.new in
@@ -64,11 +65,11 @@ pub fn put(pages: &[u64], rows: &mut [u32], blocks: &[u32], table: &mut [u64], i
     if table.len() < 16 {
         return false;
     }
-    if gate::refusal(table) != 0 {
+    if gate::open(table).is_err() {
         return false;
     }
     let s = head::shift(table);
-    let Split::At(c, o) = ids::split(id, s) else {
+    let Some((c, o)) = ids::split(id, s) else {
         return false;
     };
     into(pages, rows, blocks, table, s, c, o)

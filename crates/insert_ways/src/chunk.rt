@@ -6,9 +6,8 @@ ghost use Rattle.layout.specs.Places.{decoded};
 ghost use Rattle.layout.specs.declared.place.Place.TheVariants.{Sparse};
 ghost use Rattle.calls.specs.Insert.{insert_plan, prepared_plan, acted, told};
 
-use document::answer::Truth;
-use document::refusal;
-use layout::find::{Spot, Word};
+use document::refusal::Refusal;
+use layout::find::Spot;
 use layout::place::Place;
 use layout::{find, place};
 
@@ -17,13 +16,13 @@ fn row_of(w: u64) -> u64
     ensures { (k l : ℕ) → decoded w ≡ Sparse k l → result ≡ k }
 {
     match place::decode(w) {
-        Place::Absent => 0,
         Place::Sparse(r, _) => r,
-        Place::Dense(_) => 0,
+        Place::Absent | Place::Dense(_) => 0,
     }
 }
 
 // Offset o of chunk c, where chunks have 2^s ids.
+#[tactic(auto, unfolding(calls::specs::Insert::insert_plan, layout::specs::Short::spot_of))]
 pub fn put(
     pages: &mut [u64],
     rows: &mut [u32],
@@ -32,16 +31,14 @@ pub fn put(
     s: u64,
     c: u64,
     o: u64,
-) -> Truth
+) -> Result<bool, Refusal>
     requires { (9 ≤ s) × (s ≤ 25) × (s ≡ (header_at table.old).s) × (c < 2 ^ 62) × (o < 2 ^ s) }
     ensures { let x = mem pages.old rows.old blocks.now table.old in
         let y = mem pages.new rows.new blocks.now table.new in
         told result y ≡ acted x c o (insert_plan x c o) }
 {
-    let Word::Is(w) = find::word_of(table, c) else {
-        return Truth::Refused(refusal::NOT_LAID_OUT);
-    };
-    match find::spot_of(pages, rows, table, w) {
+    let w = find::word_of(table, c)?;
+    match find::spot_of(pages, rows, table, w)? {
         Spot::Nowhere => {
             let q = insert_plan::begin(pages, rows, blocks, table, c);
             insert_writes::act(pages, rows, table, c, o, q)
@@ -50,12 +47,12 @@ pub fn put(
             let q = insert_plan::row(pages, rows, blocks, table, o, row_of(w), l);
             insert_writes::act(pages, rows, table, c, o, q)
         }
-        Spot::Page(a, n) => Truth::Is(insert_writes::mark(pages, a, n, o)),
-        Spot::Bad => Truth::Refused(refusal::NOT_LAID_OUT),
+        Spot::Page(a, n) => Ok(insert_writes::mark(pages, a, n, o)),
     }
 }
 
 // The prepared insert: only into a dense chunk.
+#[tactic(auto, unfolding(calls::specs::Insert::prepared_plan, layout::specs::Short::spot_of))]
 pub fn put_prepared(
     pages: &mut [u64],
     rows: &[u32],
@@ -64,19 +61,16 @@ pub fn put_prepared(
     s: u64,
     c: u64,
     o: u64,
-) -> Truth
+) -> Result<bool, Refusal>
     requires { (9 ≤ s) × (s ≤ 25) × (s ≡ (header_at table.now).s) × (c < 2 ^ 62) × (o < 2 ^ s) }
     ensures { let x = mem pages.old rows.now blocks.now table.now in
         let y = mem pages.new rows.now blocks.now table.now in
         told result y ≡ acted x c o (prepared_plan x c o) }
 {
-    let Word::Is(w) = find::word_of(table, c) else {
-        return Truth::Refused(refusal::NOT_LAID_OUT);
-    };
-    match find::spot_of(pages, rows, table, w) {
-        Spot::Nowhere => Truth::Refused(refusal::NOT_PREPARED),
-        Spot::Row(_, _, _) => Truth::Refused(refusal::NOT_PREPARED),
-        Spot::Page(a, n) => Truth::Is(insert_writes::mark(pages, a, n, o)),
-        Spot::Bad => Truth::Refused(refusal::NOT_LAID_OUT),
+    let w = find::word_of(table, c)?;
+    match find::spot_of(pages, rows, table, w)? {
+        Spot::Nowhere => Err(Refusal::NotPrepared),
+        Spot::Row(..) => Err(Refusal::NotPrepared),
+        Spot::Page(a, n) => Ok(insert_writes::mark(pages, a, n, o)),
     }
 }

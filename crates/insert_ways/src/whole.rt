@@ -4,24 +4,28 @@ ghost use Rattle.layout.specs.Mem.{mem};
 ghost use Rattle.calls.specs.Insert.{told, insert_by};
 
 use crate::{append, chunk};
-use document::answer::Truth;
+use document::refusal::Refusal;
 use insert_plan::gate;
 use layout::head;
-use numbers::{Split, id as ids};
+use numbers::id as ids;
 
 // `set_if_new` into any chunk, by the place that its word names.
-fn planned(pages: &mut [u64], rows: &mut [u32], blocks: &[u32], table: &mut [u64], id: i64) -> Truth
+#[tactic(auto, unfolding(insert_plan::specs::Gate::admission, calls::specs::Insert::insert_by))]
+fn planned(
+    pages: &mut [u64],
+    rows: &mut [u32],
+    blocks: &[u32],
+    table: &mut [u64],
+    id: i64,
+) -> Result<bool, Refusal>
     ensures { let x = mem pages.old rows.old blocks.now table.old in
         let y = mem pages.new rows.new blocks.now table.new in
         told result y ≡ insert_by x id }
 {
-    let n = gate::refusal(table);
-    if n != 0 {
-        return Truth::Refused(n);
-    }
+    gate::open(table)?;
     let s = head::shift(table);
-    let Split::At(c, o) = ids::split(id, s) else {
-        return Truth::Is(false);
+    let Some((c, o)) = ids::split(id, s) else {
+        return Ok(false);
     };
     chunk::put(pages, rows, blocks, table, s, c, o)
 }
@@ -33,13 +37,13 @@ pub fn anywhere(
     blocks: &[u32],
     table: &mut [u64],
     id: i64,
-) -> Truth
+) -> Result<bool, Refusal>
     ensures { let x = mem pages.old rows.old blocks.now table.old in
         let y = mem pages.new rows.new blocks.now table.new in
         told result y ≡ insert_by x id }
 {
     if append::put(pages, rows, blocks, table, id) {
-        return Truth::Is(true);
+        return Ok(true);
     }
     planned(pages, rows, blocks, table, id)
 }

@@ -3,23 +3,22 @@ use mathlib.Core.Path.{◌≡◌, sym, ◌∙◌, ap, ap₂}
 use mathlib.Core.List.{List, ◌++◌}
 use mathlib.Core.Bool.{true}
 use Prim.Native.Nat.{ℕ, ◌+◌, ◌-◌, ◌*◌}
-use lib.ListN.{take, drop, replicate}
+use lib.ListN.{take, drop}
 use Rattle.sparse.specs.Edit.{inserted_at}
 use Rattle.dense.specs.Bits.{with_bit, with_row}
-use Rattle.layout.specs.Mem.{Mem, mem}
+use Rattle.layout.specs.Mem.{mem}
 use Rattle.document.specs.Sizes.{top}
 use Rattle.layout.specs.Sizes.{wide, header_at}
 use Rattle.layout.specs.Places.{encoded, row_part, page_part}
 use Rattle.document.specs.declared.sizes.Sizes.{Sizes}
-use Rattle.layout.specs.declared.place.Place.TheVariants.{Sparse, Dense}
-use Rattle.document.specs.declared.answer.Truth.TheVariants as truth
-use Rattle.layout.specs.Writes.{put_word, put_row_owner, put_page_owner, put_row, put_page}
-use Rattle.steps.specs.Steps.{rowed, paged}
+use Rattle.layout.specs.declared.place.Place.TheVariants.{Sparse}
+use Rattle.layout.specs.Writes.{put_word, put_row, put_page}
 use Rattle.layout.proofs.Lent.{span}
 use Rattle.steps.proofs.Lent.{put_lent}
-use Rattle.calls.specs.Insert.{acted, Told, told}
-use Rattle.calls.specs.declared.plan.Plan.{Plan}
-use Rattle.calls.specs.declared.plan.Plan.TheVariants.{Mark, Enter, Begin, Turn}
+use Rattle.calls.specs.Insert.{acted, told}
+use Rattle.calls.specs.Planned.{InsertPlan}
+use Rattle.calls.specs.declared.plan.Plan.TheVariants.{Enter}
+use Rattle.std.specs.Prelude.{Ok}
 
 -- page p filled from row r
 pub turn_put : (pages rows : List ℕ) (h : Sizes) (r p l o i j k : ℕ) → i ≡ r * h.m → j ≡ p * wide h → k ≡ wide h → (ys : List ℕ)
@@ -38,47 +37,9 @@ enter_put rows h r l k o n i en ei ys f =
 
 -- ---- the plan
 
-module _ (x : Mem) (c o : ℕ) (q : Plan) where
-  pub act_way : (p : Plan) → q ≡ p → acted x c o p ≡ acted x c o q
-  act_way p e = ap (acted x c o) (sym e)
-
-module _ (pages rows b t : List ℕ) (c o : ℕ) (q : Plan) where
-  pub act_enter : (r l k : ℕ) (s u : List ℕ) → q ≡ Enter r l k
+module _ (pages rows b t : List ℕ) (c o : ℕ) (q : InsertPlan) where
+  pub act_enter : (r l k : ℕ) (s u : List ℕ) → q ≡ Ok (Enter r l k)
       → s ≡ put_row (header_at t) rows r (inserted_at (row_part (header_at t) rows r) l k o) → u ≡ put_word (header_at t) t c (encoded (Sparse r (l + 1)))
-      → told (truth.Is true) (mem pages s b u) ≡ acted (mem pages rows b t) c o q
-  act_enter r l k s u e f g = ap₂ (λ (i j : List ℕ). told (truth.Is true) (mem pages i b j)) f g ∙ act_way (mem pages rows b t) c o q (Enter r l k) e
-
-  module _ (h : Sizes) (eh : h ≡ header_at t) where
-    pub act_mark : (p : ℕ) (u : List ℕ) → q ≡ Mark p → u ≡ put_page h pages p (with_bit (page_part h pages p) o)
-        → told (truth.Is true) (mem u rows b t) ≡ acted (mem pages rows b t) c o q
-    act_mark p u e f =
-        ap (λ (i : List ℕ). told (truth.Is true) (mem i rows b t)) (f ∙ ap (λ (k : Sizes). put_page k pages p (with_bit (page_part k pages p) o)) eh)
-        ∙ act_way (mem pages rows b t) c o q (Mark p) e
-
-    begun : Sizes → ℕ → Told
-    begun h r = told (truth.Is true) (mem pages (put_row h rows r (inserted_at (row_part h rows r) 0 0 o)) b (put_row_owner h (put_word h t c (encoded (Sparse r 1))) r (c + 1)))
-
-    pub act_begin : (r : ℕ) (s u : List ℕ) → q ≡ Begin r → s ≡ put_row h rows r (inserted_at (row_part h rows r) 0 0 o)
-        → u ≡ put_row_owner h (put_word h t c (encoded (Sparse r 1))) r (c + 1)
-        → told (truth.Is true) (mem pages s b u) ≡ acted (mem pages rows b t) c o q
-    unfolding begun rowed
-    act_begin r s u e f g =
-        ap₂ (λ (i j : List ℕ). told (truth.Is true) (mem pages i b j)) f g
-        ∙ (ap (λ (k : Sizes). begun k r) eh ∙ act_way (mem pages rows b t) c o q (Begin r) e)
-
-    abbrev page : Sizes → ℕ → ℕ → ℕ → List ℕ
-    page h r l p = put_page h pages p (with_bit (with_row (page_part h pages p) (row_part h rows r) (top h) l) o)
-
-    turned : Sizes → ℕ → ℕ → ℕ → Told
-    turned h r l p =
-        told (truth.Is true)
-        (mem (page h r l p) (put_row h rows r (replicate h.m 0)) b (put_page_owner h (put_row_owner h (put_word h t c (encoded (Dense p))) r 0) p (c + 1)))
-
-    pub act_turn : (r l p : ℕ) (v s u : List ℕ) → q ≡ Turn r l p → v ≡ page h r l p → s ≡ put_row h rows r (replicate h.m 0)
-        → u ≡ put_page_owner h (put_row_owner h (put_word h t c (encoded (Dense p))) r 0) p (c + 1)
-        → told (truth.Is true) (mem v s b u) ≡ acted (mem pages rows b t) c o q
-    unfolding turned paged
-    act_turn r l p v s u e f g d =
-        ap (λ (i : List ℕ). told (truth.Is true) (mem i s b u)) f
-        ∙ (ap₂ (λ (i j : List ℕ). told (truth.Is true) (mem (page h r l p) i b j)) g d
-        ∙ (ap (λ (k : Sizes). turned k r l p) eh ∙ act_way (mem pages rows b t) c o q (Turn r l p) e))
+      → told (Ok true) (mem pages s b u) ≡ acted (mem pages rows b t) c o q
+  act_enter r l k s u e f g =
+      ap₂ (λ (i j : List ℕ). told (Ok true) (mem pages i b j)) f g ∙ ap (acted (mem pages rows b t) c o) (sym e)

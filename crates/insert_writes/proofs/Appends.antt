@@ -10,20 +10,19 @@ use borrow.Author.Tests.{lt-ltb}
 use borrow.Rule.Slice.PartMut.{set_mid_at}
 use Rattle.sparse.specs.Search.{spot_in}
 use Rattle.sparse.specs.Edit.{inserted_at}
-use Rattle.sparse.specs.declared.Place.TheVariants.{Free}
-use Rattle.sparse.proofs.Edits.{shifted_none, shifted_end}
+use Rattle.sparse.proofs.Edits.{inserted_end}
 use Rattle.sparse.proofs.Searches.{spot_end}
 use Rattle.document.specs.declared.sizes.Sizes.{Sizes}
-use Rattle.document.specs.declared.answer.Truth.TheVariants as truth
 use Rattle.layout.specs.Mem.{mem}
 use Rattle.layout.specs.Sizes.{header_at}
 use Rattle.layout.specs.Places.{decoded, encoded, row_part}
 use Rattle.layout.specs.Writes.{put_part, put_word, put_row}
 use Rattle.layout.specs.declared.place.Place.TheVariants.{Sparse}
 use Rattle.calls.specs.Insert.{turn_dense, into_row, into_place, acted, told}
-use Rattle.calls.specs.declared.plan.Plan.TheVariants.{Enter}
 use Rattle.calls.proofs.Plans.{sparse_word}
 use Rattle.insert_writes.proofs.Acts.{act_enter}
+use Rattle.calls.specs.declared.plan.Plan.TheVariants.{Enter}
+use Rattle.std.specs.Prelude.{Err, Ok}
 
 -- ---- the row
 
@@ -35,7 +34,7 @@ module _ (rows : List ℕ) (h : Sizes) (r l o a : ℕ) (start : a ≡ r * h.m) (
   row_long = simp (length-take, length-drop) (omega arith)
 
   row_set : set row l o ≡ inserted_at row l l o
-  row_set = shifted_end row row l l l o (omega arith) (omega arith) (omega arith) (omega (arith, row_long)) (shifted_none row l)
+  row_set = inserted_end row l o (omega (arith, row_long))
 
   append_put : set rows (a + l) o ≡ put_row h rows r (inserted_at row l l o)
   unfolding put_part
@@ -49,7 +48,7 @@ module _ (rows : List ℕ) (h : Sizes) (r l o a : ℕ) (start : a ≡ r * h.m) (
       get_or-take h.m (drop (r * h.m) rows) (l - 1) 0 (omega arith)
       ∙ (get_or-drop (r * h.m) rows (l - 1) 0 ∙ ap (λ (i : ℕ). get_or rows (i + (l - 1)) 0) (sym start))
 
-  append_spot : 1 ≤ l → get_or rows (a + (l - 1)) 0 < o → Free l ≡ spot_in row l o
+  append_spot : 1 ≤ l → get_or rows (a + (l - 1)) 0 < o → Err l ≡ spot_in row l o
   append_spot s above = spot_end row l o (λ e. omega arith) (omega (arith, last_is s))
 
 -- ---- the plan
@@ -59,14 +58,14 @@ module _ (pages rows b t : List ℕ) (c o w r l a : ℕ) (is : decoded w ≡ Spa
   word_is : w + 1 ≡ encoded (Sparse r (l + 1))
   word_is = let e = sparse_word w r l is in omega arith
 
-  plan_is : into_place (mem pages rows b t) c o (Sparse r l) ≡ Enter r l l
+  plan_is : into_place (mem pages rows b t) c o (Sparse r l) ≡ Ok (Enter r l l)
   plan_is =
       let x = mem pages rows b t in
       ap (into_row x r l) (sym (append_spot rows (header_at t) r l o a start room fits some above))
-      ∙ ap (λ (k : Bool). cond k (Enter r l l) (turn_dense x r l)) (lt-ltb l (header_at t).m room)
+      ∙ ap (λ (k : Bool). cond k (Ok (Enter r l l)) (turn_dense x r l)) (lt-ltb l (header_at t).m room)
 
   pub append_acts : (s u : List ℕ) → s ≡ set rows (a + l) o → u ≡ put_word (header_at t) t c (w + 1)
-      → told (truth.Is true) (mem pages s b u) ≡ acted (mem pages rows b t) c o (into_place (mem pages rows b t) c o (Sparse r l))
+      → told (Ok true) (mem pages s b u) ≡ acted (mem pages rows b t) c o (into_place (mem pages rows b t) c o (Sparse r l))
   append_acts s u e f =
       act_enter pages rows b t c o (into_place (mem pages rows b t) c o (Sparse r l)) r l l s u plan_is
       (e ∙ append_put rows (header_at t) r l o a start room fits) (f ∙ ap (put_word (header_at t) t c) word_is)

@@ -14,7 +14,7 @@ ghost use Rattle.calls.specs.Insert.{acted, told};
 ghost use Rattle.insert_plan.specs.Ready.{MarkReady, EnterReady, Ready};
 
 use calls::plan::Plan;
-use document::answer::Truth;
+use document::refusal::Refusal;
 use document::sizes::Sizes;
 use layout::{head, place};
 use layout_writes::write;
@@ -27,8 +27,7 @@ pub fn mark(pages: &mut [u64], a: usize, n: usize, o: u64) -> bool
     ensures { let page = take n (drop a pages.old) in
         (result ≡ not (is_set page o)) × (pages.new ≡ put_part pages.old a n (with_bit page o)) }
 {
-    let e = a + n;
-    dense::insert(&mut pages[a..e], o)
+    dense::insert(&mut pages[a..a + n], o)
 }
 
 // Offset o of page p.
@@ -36,9 +35,8 @@ fn mark_page(pages: &mut [u64], h: Sizes, p: u64, o: u64)
     requires { MarkReady pages.old o p h }
     ensures { pages.new ≡ put_page h pages.old p (with_bit (page_part h pages.old p) o) }
 {
-    let s = h.s;
-    let a = power::scaled(p, s - 6) as usize;
-    let n = power::pow2(s - 6) as usize;
+    let a = power::scaled(p, h.s - 6) as usize;
+    let n = power::pow2(h.s - 6) as usize;
     mark(pages, a, n, o);
 }
 
@@ -51,8 +49,7 @@ fn enter(rows: &mut [u32], table: &mut [u64], c: u64, o: u64, r: u64, l: usize, 
 {
     let m = head::row_size(table);
     let a = power::times(r, m) as usize;
-    let e = a + m as usize;
-    sparse::insert_at(&mut rows[a..e], l, k, o as u32);
+    sparse::insert_at(&mut rows[a..a + m as usize], l, k, o as u32);
     write::set_word(table, c, place::row_word(r, l as u64 + 1));
 }
 
@@ -72,8 +69,7 @@ fn begin_row(rows: &mut [u32], h: Sizes, r: u64, o: u64)
     ensures { rows.new ≡ put_row h rows.old r (inserted_at (row_part h rows.old r) 0 0 o) }
 {
     let a = head::row_at(h, r) as usize;
-    let e = a + h.m as usize;
-    sparse::insert_at(&mut rows[a..e], 0, 0, o as u32);
+    sparse::insert_at(&mut rows[a..a + h.m as usize], 0, 0, o as u32);
 }
 
 // Chunk c stands in row r with one member.
@@ -101,44 +97,49 @@ fn turn_page(pages: &mut [u64], rows: &[u32], h: Sizes, r: u64, l: usize, p: u64
     ensures { pages.new ≡ put_page h pages.old p
         (with_bit (with_row (page_part h pages.old p) (row_part h rows.now r) (top h) l) o) }
 {
-    let s = h.s;
     let a = head::row_at(h, r) as usize;
-    let e = a + h.m as usize;
     let b = head::page_at(h, p) as usize;
-    let f = b + power::pow2(s - 6) as usize;
-    fill(&mut pages[b..f], &rows[a..e], l, s, o);
+    let n = power::pow2(h.s - 6) as usize;
+    fill(&mut pages[b..b + n], &rows[a..a + h.m as usize], l, h.s, o);
 }
 
 // What the plan says, of chunk c and offset o, whatever the block counts are.
-pub fn act(pages: &mut [u64], rows: &mut [u32], table: &mut [u64], c: u64, o: u64, q: Plan) -> Truth
+#[tactic(auto, unfolding(steps::specs::Steps::rowed, steps::specs::Steps::paged))]
+pub fn act(
+    pages: &mut [u64],
+    rows: &mut [u32],
+    table: &mut [u64],
+    c: u64,
+    o: u64,
+    q: Result<Plan, Refusal>,
+) -> Result<bool, Refusal>
     requires { Ready pages.old rows.old table.old c o q }
     ensures { (b : List ℕ) → told result (mem pages.new rows.new b table.new)
         ≡ acted (mem pages.old rows.old b table.old) c o q }
 {
-    match q {
-        Plan::Refuse(n) => Truth::Refused(n),
-        Plan::Known => Truth::Is(false),
+    match q? {
+        Plan::Known => Ok(false),
         Plan::Mark(p) => {
             let h = head::read(table);
             mark_page(pages, h, p, o);
-            Truth::Is(true)
+            Ok(true)
         }
         Plan::Enter(r, l, k) => {
             enter(rows, table, c, o, r, l, k);
-            Truth::Is(true)
+            Ok(true)
         }
         Plan::Begin(r) => {
             let h = head::read(table);
             begin_row(rows, h, r, o);
             begin_entry(table, h, c, r);
-            Truth::Is(true)
+            Ok(true)
         }
         Plan::Turn(r, l, p) => {
             let h = head::read(table);
             turn_page(pages, rows, h, r, l, p, o);
             turn::free_row(rows, h, r);
             turn::turn_entry(table, h, c, r, p);
-            Truth::Is(true)
+            Ok(true)
         }
     }
 }

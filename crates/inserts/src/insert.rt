@@ -6,13 +6,11 @@ ghost use Rattle.document.specs.Insert.{done};
 ghost use Rattle.document.specs.Calls.{insert, put, prepared, whether, that};
 ghost use Rattle.contracts.specs.Does.{Does};
 
-use document::answer::{Outcome, Truth};
-use document::refusal;
+use document::refusal::Refusal;
 use insert_plan::gate;
-use insert_ways::direct::Direct;
 use insert_ways::{chunk, direct, whole};
 use layout::head;
-use numbers::{Split, id as ids};
+use numbers::id as ids;
 
 // Inserts an id, and answers whether it is new.
 pub fn set_if_new(
@@ -21,24 +19,14 @@ pub fn set_if_new(
     blocks: &mut [u32],
     table: &mut [u64],
     id: i64,
-) -> Truth
+) -> Result<bool, Refusal>
     ensures { let x = mem pages.old rows.old blocks.old table.old in
         let y = mem pages.new rows.new blocks.new table.new in
         Does x (insert id) (whether result) y }
 {
     match direct::put(pages, rows, blocks, table, id) {
-        Direct::Is(b) => Truth::Is(b),
-        Direct::Elsewhere => whole::anywhere(pages, rows, blocks, table, id),
-    }
-}
-
-// Whether it was done, of an answer that says more.
-fn drop_answer(a: Truth) -> Outcome
-    ensures { result ≡ done a }
-{
-    match a {
-        Truth::Is(_) => Outcome::Done,
-        Truth::Refused(n) => Outcome::Refused(n),
+        Some(b) => Ok(b),
+        None => whole::anywhere(pages, rows, blocks, table, id),
     }
 }
 
@@ -49,31 +37,36 @@ pub fn set(
     blocks: &mut [u32],
     table: &mut [u64],
     id: i64,
-) -> Outcome
+) -> Result<(), Refusal>
     ensures { let x = mem pages.old rows.old blocks.old table.old in
         let y = mem pages.new rows.new blocks.new table.new in
         Does x (put id) (that result) y }
 {
     match direct::put(pages, rows, blocks, table, id) {
-        Direct::Is(_) => Outcome::Done,
-        Direct::Elsewhere => drop_answer(whole::anywhere(pages, rows, blocks, table, id)),
+        Some(_) => Ok(()),
+        None => {
+            whole::anywhere(pages, rows, blocks, table, id)?;
+            Ok(())
+        }
     }
 }
 
 // The whole way of the prepared insert.
-fn prepared(pages: &mut [u64], rows: &[u32], blocks: &[u32], table: &[u64], id: i64) -> Truth
+#[tactic(auto, unfolding(insert_plan::specs::Gate::admission, calls::specs::Insert::prepared_by))]
+fn prepared(
+    pages: &mut [u64],
+    rows: &[u32],
+    blocks: &[u32],
+    table: &[u64],
+    id: i64,
+) -> Result<bool, Refusal>
     ensures { let x = mem pages.old rows.now blocks.now table.now in
         let y = mem pages.new rows.now blocks.now table.now in
         told result y ≡ prepared_by x id }
 {
-    let n = gate::refusal(table);
-    if n != 0 {
-        return Truth::Refused(n);
-    }
+    gate::open(table)?;
     let s = head::shift(table);
-    let Split::At(c, o) = ids::split(id, s) else {
-        return Truth::Refused(refusal::NOT_PREPARED);
-    };
+    let (c, o) = ids::split(id, s).ok_or(Refusal::NotPrepared)?;
     chunk::put_prepared(pages, rows, blocks, table, s, c, o)
 }
 
@@ -84,13 +77,13 @@ pub fn set_prepared(
     blocks: &mut [u32],
     table: &mut [u64],
     id: i64,
-) -> Truth
+) -> Result<bool, Refusal>
     ensures { let x = mem pages.old rows.old blocks.old table.old in
         let y = mem pages.new rows.new blocks.new table.new in
         Does x (prepared id) (whether result) y }
 {
     match direct::put(pages, rows, blocks, table, id) {
-        Direct::Is(b) => Truth::Is(b),
-        Direct::Elsewhere => prepared(pages, rows, blocks, table, id),
+        Some(b) => Ok(b),
+        None => prepared(pages, rows, blocks, table, id),
     }
 }

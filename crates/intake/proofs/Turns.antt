@@ -9,18 +9,17 @@ use mir.Val.{SFits}
 use Rattle.document.specs.State.{State}
 use Rattle.document.specs.Calls.{put, that}
 use Rattle.document.specs.Insert.{done, new_answer, inserted, is_id}
-use Rattle.document.specs.declared.answer.Outcome.{Outcome}
-use Rattle.document.specs.declared.answer.Truth.{Truth}
-use Rattle.document.specs.declared.answer.Truth.TheVariants as truth
 use Rattle.layout.specs.Mem.{Mem}
 use Rattle.layout.specs.Meaning.{state_of}
 use Rattle.layout.specs.Follows.{Follows}
 use Rattle.contracts.proofs.Steps.{does}
 use Rattle.program.specs.Turns.{or_rest, in_turn, run_all}
-use Rattle.program.specs.declared.Ended.{Ended}
 use Rattle.program.proofs.Same.{run_same, run_keeps}
 use Rattle.intake.specs.Puts.{put_by, put_in}
 use Rattle.intake.specs.Turned.{among, Turned}
+use Rattle.document.specs.Results.{Outcome, Truth}
+use Rattle.program.specs.Faults.{Ended}
+use Rattle.std.specs.Prelude.{Err, Ok}
 
 -- ---- memory and set
 
@@ -46,8 +45,8 @@ input_stands x q input w = run_same put_by put_in Stands alike x q input w
 -- ---- the mode stays
 
 mode_stays : (q : State) (z : ℤ) (b : Bool) (a : Truth) → q.mode ≡ b → (inserted q z a).mode ≡ b
-mode_stays q z b (truth.Is n) h = h
-mode_stays q z b (truth.Refused c) h = h
+mode_stays q z b (Ok n) h = h
+mode_stays q z b (Err c) h = h
 
 pub stays_open : (q : State) (input : List ℕ) → q.mode ≡ false → (run_all put_in q input).left.mode ≡ false
 stays_open q input h = run_keeps put_in (λ (p : State). p.mode ≡ false) (λ (p : State) (z : ℤ) (k : p.mode ≡ false). mode_stays p z false (new_answer p z) k) q input h
@@ -63,9 +62,9 @@ or_assoc true b c = refl
 or_assoc false b c = refl
 
 module _ (q : State) (z : ℤ) (zs : List ℤ) (e : Ended) where
-  turned_by : (a : Truth) → new_answer q z ≡ a → ((b : Bool) → Turned (inserted q z (truth.Is b)) zs e (in_turn put_in (inserted q z (truth.Is b)) zs e)) → Turned q (z ∷ zs) e (or_rest (done a) (inserted q z a) (in_turn put_in (inserted q z a) zs e))
+  turned_by : (a : Truth) → new_answer q z ≡ a → ((b : Bool) → Turned (inserted q z (Ok b)) zs e (in_turn put_in (inserted q z (Ok b)) zs e)) → Turned q (z ∷ zs) e (or_rest (done a) (inserted q z a) (in_turn put_in (inserted q z a) zs e))
   unfolding among
-  turned_by (truth.Is b) h more =
+  turned_by (Ok b) h more =
       let t = more b in
       record {
         before = z ∷ t.before;
@@ -74,10 +73,10 @@ module _ (q : State) (z : ℤ) (zs : List ℤ) (e : Ended) where
         members = λ (n : ℕ). t.members n ∙ or_assoc (q.members n) (is_id z n) (among t.before n);
         decides = t.decides;
       }
-  turned_by (truth.Refused c) h more =
+  turned_by (Err c) h more =
       record { before = []; rest = z ∷ zs; split = refl; members = λ (n : ℕ). or_false (q.members n); decides = (c, h, refl) }
 
 pub turned : (q : State) (zs : List ℤ) (e : Ended) → Turned q zs e (in_turn put_in q zs e)
 unfolding in_turn among
 turned q [] e = record { before = []; rest = []; split = refl; members = λ (n : ℕ). or_false (q.members n); decides = refl }
-turned q (z ∷ zs) e = turned_by q z zs e (new_answer q z) refl (λ (b : Bool). turned (inserted q z (truth.Is b)) zs e)
+turned q (z ∷ zs) e = turned_by q z zs e (new_answer q z) refl (λ (b : Bool). turned (inserted q z (Ok b)) zs e)

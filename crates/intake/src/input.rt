@@ -6,10 +6,9 @@ ghost use Rattle.program.specs.Turns.{run};
 ghost use Rattle.program.specs.Reader.{fed, perform, feed, finished};
 ghost use Rattle.intake.specs.Puts.{sizes, put_by, started};
 
-use document::answer::Outcome;
 use idset::setup;
 use inserts::insert;
-use program::{Act, Ended, Input};
+use program::{Act, Fault, Input};
 
 // Before the first byte: an empty set of the program's sizes.
 pub fn begin(pages: &mut [u64], rows: &mut [u32], blocks: &mut [u32], table: &mut [u64]) -> Input
@@ -18,8 +17,8 @@ pub fn begin(pages: &mut [u64], rows: &mut [u32], blocks: &mut [u32], table: &mu
         fed result y ≡ started (set_up_by sizes x) }
 {
     match setup::set_up(12, 64, 16, 16, 32, 16, pages, rows, blocks, table) {
-        Outcome::Done => program::start(),
-        Outcome::Refused(c) => Input::Refused(c),
+        Ok(()) => program::start(),
+        Err(c) => Input::Stopped(Fault::Call(c)),
     }
 }
 
@@ -37,13 +36,12 @@ fn perform(
 {
     match a {
         Act::Go(i) => i,
-        Act::Insert(id, n, s) => {
-            program::go_on(insert::set(pages, rows, blocks, table, id), n, s)
-        }
+        Act::Insert(id, n, s) => program::go_on(insert::set(pages, rows, blocks, table, id), n, s),
     }
 }
 
 // A part of the input, of any length.
+#[tactic(auto, unfolding(program::specs::Reader::feed))]
 pub fn take(
     pages: &mut [u64],
     rows: &mut [u32],
@@ -57,10 +55,8 @@ pub fn take(
         fed result y ≡ feed put_by (fed i x) part.now }
 {
     let mut at = i;
-    let mut k: usize = 0;
-    while k < part.len() {
-        at = perform(pages, rows, blocks, table, program::byte(at, part[k]));
-        k += 1;
+    for b in part {
+        at = perform(pages, rows, blocks, table, program::byte(at, *b));
     }
     at
 }
@@ -72,7 +68,7 @@ pub fn end(
     blocks: &mut [u32],
     table: &mut [u64],
     i: Input,
-) -> Ended
+) -> Result<u64, Fault>
     ensures { let x = mem pages.old rows.old blocks.old table.old in
         let y = mem pages.new rows.new blocks.new table.new in
         run result y ≡ finished put_by (fed i x) }

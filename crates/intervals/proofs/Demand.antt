@@ -10,8 +10,8 @@ use Rattle.sums.proofs.Theorems.{planned}
 use Rattle.document.specs.State.{State}
 use Rattle.document.specs.Plan.{plan_of, PlansFor}
 use Rattle.document.specs.Spans.{interval_of, span_at}
-use Rattle.document.specs.declared.plan.Planning.TheVariants.{Made}
 use Rattle.intervals.proofs.Intervals.{span_part, plans_bounded}
+use Rattle.std.specs.Prelude.{Ok}
 
 -- n intervals that are those of a plan are a plan
 module _ (P : Ids) (slots n : ℕ) (cut other : ℕ → Interval) (same : (k : ℕ) → k < n → cut k ≡ other k) where
@@ -34,7 +34,7 @@ module _ (P : Ids) (slots n : ℕ) (cut other : ℕ → Interval) (same : (k : �
   }
 
 -- whatever boundaries a planning left
-pub spans_planned : {q : State} {slots : ℕ} {bs cs : List ℤ} → PlansFor q slots bs (Made (plan_of (total q.members) slots)) cs
+pub spans_planned : {q : State} {slots : ℕ} {bs cs : List ℤ} → PlansFor q slots bs (Ok (plan_of (total q.members) slots)) cs
     → Planned q.members slots (parts (total q.members) slots) (λ (k : ℕ). interval_of (span_at (plan_of (total q.members) slots) cs k))
 spans_planned {q} {slots} {bs} {cs} p =
     let P = q.members in

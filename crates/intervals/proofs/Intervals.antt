@@ -17,13 +17,11 @@ use Rattle.document.specs.State.{State}
 use Rattle.document.specs.Plan.{plan_of, plan_answer, PlansFor}
 use Rattle.document.specs.Spans.{interval_of, record_ok, plan_ok, low_at, span_at, ids_answer, ranks_answer}
 use Rattle.document.specs.declared.plan.Plan.{Plan}
-use Rattle.document.specs.declared.plan.Planning.TheVariants.{Made, Refused}
 use Rattle.document.specs.declared.plan.Span.{Span}
 use Rattle.document.specs.declared.plan.Span.TheVariants.{Between, From}
-use Rattle.document.specs.declared.plan.Spanned.{Spanned}
-use Rattle.document.specs.declared.plan.Spanned.TheVariants as spanned
-use Rattle.document.specs.declared.plan.Ranks.{Ranks}
-use Rattle.document.specs.declared.plan.Ranks.TheVariants as ranks
+use Rattle.document.specs.Refusals.{is_open, no_partition, no_room, not_laid_out}
+use Rattle.document.specs.Results.{Ranked, Spanned}
+use Rattle.std.specs.Prelude.{Err, Ok}
 
 abbrev interval : ℤ → End → Interval
 interval z h = record { low = z; high = h }
@@ -32,17 +30,17 @@ interval z h = record { low = z; high = h }
 
 module _ (p : Plan) (bs : List ℤ) (k : ℕ) where
   abbrev ids_at : Bool → Bool → Spanned
-  ids_at ok there = cond ok (cond there (spanned.Of (span_at p bs k)) (spanned.Refused 12)) (spanned.Refused 3)
+  ids_at ok there = cond ok (cond there (Ok (span_at p bs k)) (Err no_partition)) (Err not_laid_out)
 
-  pub ids_bad : plan_ok p bs ≡ false → ids_answer p bs k ≡ spanned.Refused 3
+  pub ids_bad : plan_ok p bs ≡ false → ids_answer p bs k ≡ Err not_laid_out
   unfolding ids_answer
   ids_bad e = ap (λ (b : Bool). ids_at b (ltb k p.partitions)) e
 
-  pub ids_none : plan_ok p bs ≡ true → p.partitions ≤ k → ids_answer p bs k ≡ spanned.Refused 12
+  pub ids_none : plan_ok p bs ≡ true → p.partitions ≤ k → ids_answer p bs k ≡ Err no_partition
   unfolding ids_answer
   ids_none e l = ap₂ ids_at e (le-ltb k p.partitions l)
 
-  pub ids_there : plan_ok p bs ≡ true → k < p.partitions → ids_answer p bs k ≡ spanned.Of (span_at p bs k)
+  pub ids_there : plan_ok p bs ≡ true → k < p.partitions → ids_answer p bs k ≡ Ok (span_at p bs k)
   unfolding ids_answer
   ids_there e l = ap₂ ids_at e (lt-ltb k p.partitions l)
 
@@ -56,18 +54,18 @@ module _ (p : Plan) (bs : List ℤ) (k : ℕ) where
   span_from l = ap span_at_law (le-ltb (k + 1) p.partitions l)
 
 module _ (p : Plan) (k : ℕ) where
-  abbrev ranks_at : Bool → Bool → Ranks
-  ranks_at ok there = cond ok (cond there (ranks.Of (k * p.slots) (min p.slots (p.total - k * p.slots))) (ranks.Refused 12)) (ranks.Refused 3)
+  abbrev ranks_at : Bool → Bool → Ranked
+  ranks_at ok there = cond ok (cond there (Ok (record { first = k * p.slots; count = min p.slots (p.total - k * p.slots) })) (Err no_partition)) (Err not_laid_out)
 
-  pub ranks_bad : record_ok p ≡ false → ranks_answer p k ≡ ranks.Refused 3
+  pub ranks_bad : record_ok p ≡ false → ranks_answer p k ≡ Err not_laid_out
   unfolding ranks_answer
   ranks_bad e = ap (λ (b : Bool). ranks_at b (ltb k p.partitions)) e
 
-  pub ranks_none : record_ok p ≡ true → p.partitions ≤ k → ranks_answer p k ≡ ranks.Refused 12
+  pub ranks_none : record_ok p ≡ true → p.partitions ≤ k → ranks_answer p k ≡ Err no_partition
   unfolding ranks_answer
   ranks_none e l = ap₂ ranks_at e (le-ltb k p.partitions l)
 
-  pub ranks_there : record_ok p ≡ true → k < p.partitions → ranks_answer p k ≡ ranks.Of (k * p.slots) (min p.slots (p.total - k * p.slots))
+  pub ranks_there : record_ok p ≡ true → k < p.partitions → ranks_answer p k ≡ Ok (record { first = k * p.slots; count = min p.slots (p.total - k * p.slots) })
   unfolding ranks_answer
   ranks_there e l = ap₂ ranks_at e (lt-ltb k p.partitions l)
 
@@ -117,24 +115,24 @@ module _ (P : Ids) (slots : ℕ) (cs : List ℤ) (w : Bounded P slots cs) where
   plan_ok_law = ap₂ ◌&&◌ (record_ok_law (total P) slots) (le-leb (parts (total P) slots - 1) (length cs) w.enough)
 
   -- `ids` answers the parts of the set
-  pub ids_part : (k : ℕ) → k < parts (total P) slots → ids_answer (plan_of (total P) slots) cs k ≡ spanned.Of (span_at (plan_of (total P) slots) cs k)
+  pub ids_part : (k : ℕ) → k < parts (total P) slots → ids_answer (plan_of (total P) slots) cs k ≡ Ok (span_at (plan_of (total P) slots) cs k)
   ids_part k l = ids_there (plan_of (total P) slots) cs k plan_ok_law l
 
 -- `ranks` answers a part's first rank and how many members it holds
-pub ranks_part : (P : Ids) (slots k : ℕ) → k < parts (total P) slots → ranks_answer (plan_of (total P) slots) k ≡ ranks.Of (k * size slots) (held P (part P slots k))
-ranks_part P slots k l = ranks_there (plan_of (total P) slots) k (record_ok_law (total P) slots) l ∙ ap (ranks.Of (k * size slots)) (sym (part_held P slots k l))
+pub ranks_part : (P : Ids) (slots k : ℕ) → k < parts (total P) slots → ranks_answer (plan_of (total P) slots) k ≡ Ok (record { first = (k * size slots); count = (held P (part P slots k)) })
+ranks_part P slots k l = ranks_there (plan_of (total P) slots) k (record_ok_law (total P) slots) l ∙ ap (λ (n : ℕ). Ok (record { first = k * size slots; count = n })) (sym (part_held P slots k l))
 
 -- a plan was made: there was room
-room_of : (P : Ids) (slots room : ℕ) (r : Bool) → Made (plan_of (total P) slots) ≡ cond r (cond (ltb room (parts (total P) slots - 1)) (Refused 11) (Made (plan_of (total P) slots))) (Refused 5) → parts (total P) slots - 1 ≤ room
+room_of : (P : Ids) (slots room : ℕ) (r : Bool) → Ok (plan_of (total P) slots) ≡ cond r (cond (ltb room (parts (total P) slots - 1)) (Err no_room) (Ok (plan_of (total P) slots))) (Err is_open) → parts (total P) slots - 1 ≤ room
 room_of P slots room false e = absurd (let z : ◌≡◌ {A = ℕ} 0 1 = cc in omega arith)
 room_of P slots room true e = go (ltb room (parts (total P) slots - 1)) refl e
   where
-    go : (b : Bool) → ltb room (parts (total P) slots - 1) ≡ b → Made (plan_of (total P) slots) ≡ cond b (Refused 11) (Made (plan_of (total P) slots)) → parts (total P) slots - 1 ≤ room
+    go : (b : Bool) → ltb room (parts (total P) slots - 1) ≡ b → Ok (plan_of (total P) slots) ≡ cond b (Err no_room) (Ok (plan_of (total P) slots)) → parts (total P) slots - 1 ≤ room
     go true t q = absurd (let z : ◌≡◌ {A = ℕ} 0 1 = cc in omega arith)
     go false t q = ltb-false room (parts (total P) slots - 1) t
 
 -- boundaries as a planning leaves them
-pub plans_bounded : {q : State} {slots : ℕ} {bs cs : List ℤ} → PlansFor q slots bs (Made (plan_of (total q.members) slots)) cs → Bounded q.members slots cs
+pub plans_bounded : {q : State} {slots : ℕ} {bs cs : List ℤ} → PlansFor q slots bs (Ok (plan_of (total q.members) slots)) cs → Bounded q.members slots cs
 unfolding plan_answer
 plans_bounded {q} {slots} {bs} {cs} p =
     let l = room_of q.members slots (length bs) q.mode p.answer in

@@ -2,10 +2,10 @@
 ghost use Rattle.std.specs.Prelude.{◌≡◌};
 ghost use Rattle.document.specs.Spans.{in_partition, record_ok, plan_ok, low_at, ids_answer, ranks_answer, range_meets};
 
-use crate::{bound, round};
-use document::plan::{Plan, Ranks, Span, Spanned};
-use document::refusal;
-use numbers::{id, order};
+use crate::round;
+use document::plan::{Plan, Ranks, Span};
+use document::refusal::Refusal;
+use numbers::{element, id};
 
 // How many partitions a plan has.
 pub fn partitions(p: Plan) -> u64
@@ -25,7 +25,7 @@ fn record_ok(p: Plan) -> bool
 fn plan_ok(p: Plan, bounds: &[i64]) -> bool
     ensures { result ≡ plan_ok p bounds.now }
 {
-    record_ok(p) & (order::minus(p.partitions, 1) <= bounds.len() as u64)
+    record_ok(p) & (p.partitions.saturating_sub(1) <= bounds.len() as u64)
 }
 
 // Partition k's low end: partition 0 begins at the smallest i64.
@@ -35,39 +35,42 @@ fn low(bounds: &[i64], k: u64) -> i64
     if k == 0 {
         return id::SMALLEST;
     }
-    bound::at(bounds, k - 1)
+    element::at(bounds, k - 1, 0)
 }
 
 // Partition k's interval of ids.
-pub fn ids(p: Plan, bounds: &[i64], k: u64) -> Spanned
+#[tactic(auto, unfolding(document::specs::Spans::ids_answer))]
+pub fn ids(p: Plan, bounds: &[i64], k: u64) -> Result<Span, Refusal>
     ensures { result ≡ ids_answer p bounds.now k }
 {
     if !plan_ok(p, bounds) {
-        return Spanned::Refused(refusal::NOT_LAID_OUT);
+        return Err(Refusal::NotLaidOut);
     }
     if p.partitions <= k {
-        return Spanned::Refused(refusal::NO_PARTITION);
+        return Err(Refusal::NoPartition);
     }
     let lo = low(bounds, k);
     if k + 1 < p.partitions {
-        let hi = bound::at(bounds, k);
-        return Spanned::Of(Span::Between(lo, hi));
+        let hi = element::at(bounds, k, 0);
+        return Ok(Span::Between(lo, hi));
     }
-    Spanned::Of(Span::From(lo))
+    Ok(Span::From(lo))
 }
 
 // Partition k's first rank and how many members it holds.
-pub fn ranks(p: Plan, k: u64) -> Ranks
+#[tactic(auto, unfolding(document::specs::Spans::ranks_answer))]
+pub fn ranks(p: Plan, k: u64) -> Result<Ranks, Refusal>
     ensures { result ≡ ranks_answer p k }
 {
     if !record_ok(p) {
-        return Ranks::Refused(refusal::NOT_LAID_OUT);
+        return Err(Refusal::NotLaidOut);
     }
     if p.partitions <= k {
-        return Ranks::Refused(refusal::NO_PARTITION);
+        return Err(Refusal::NoPartition);
     }
     let first = k * p.slots;
-    Ranks::Of(first, order::least_of(p.slots, p.total - first))
+    let count = p.slots.min(p.total - first);
+    Ok(Ranks { first, count })
 }
 
 // Whether an id lies in an interval.

@@ -2,8 +2,6 @@
 ghost use Rattle.std.specs.Prelude.{◌≡◌};
 ghost use Rattle.sums.specs.Cuts.{parts};
 
-use numbers::order;
-
 // The quotient t / slots rounded up, at least 1; slots of 0 are read as 1.
 pub fn parts(t: u64, slots: u64) -> u64
     ensures { result ≡ parts t slots }
@@ -11,5 +9,5 @@ pub fn parts(t: u64, slots: u64) -> u64
     if t == 0 {
         return 1;
     }
-    (t - 1) / order::greatest_of(1, slots) + 1
+    (t - 1) / u64::max(1, slots) + 1
 }

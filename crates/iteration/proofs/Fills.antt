@@ -1,4 +1,4 @@
--- Filling a record, way by way: a part, a chunk, an entry, a turn of the run. Assumes nothing.
+-- Filling a record, way by way: a chunk, an entry, a turn of the run. Assumes nothing.
 use mathlib.Core.Path.{◌≡◌, refl, sym, ◌∙◌, ap, ap₂, subst}
 use mathlib.Core.Bool.{Bool, true, cond}
 use mathlib.Core.List.{List}
@@ -6,77 +6,32 @@ use Prim.Native.Nat.{ℕ, zero, suc, ◌+◌, ◌-◌, ◌*◌, ◌/◌, ◌^◌
 use native.Mathlib.Numerals.{add-one}
 use native.Mathlib.Omega.{arith}
 use lib.IntN.{ℤ}
-use lib.ListN.{length, get_or, take, drop}
+use lib.ListN.{length, get_or}
 use lib.Pow.{pow_pos}
 use borrow.Author.Tests.{lt-ltb, le-ltb}
-use Rattle.sums.specs.Members.{members_in, plus, fill, fill_to}
-use Rattle.numbers.proofs.Powers.{powers, pow_drop}
+use Rattle.numbers.proofs.Powers.{pow_drop}
 use Rattle.numbers.proofs.Slots.{slot_within}
-use Rattle.sparse.specs.Listed.{offsets_from}
-use Rattle.dense.specs.Bits.{is_set}
 use Rattle.document.specs.Sizes.{top, last_chunk}
 use Rattle.document.specs.Iteration.{blank}
 use Rattle.layout.specs.Mem.{Mem}
 use Rattle.layout.specs.Sizes.{head}
 use Rattle.layout.specs.Short.{spot_of}
-use Rattle.layout.specs.declared.find.Spot.{Spot}
-use Rattle.layout.specs.declared.find.Spot.TheVariants.{Row, Page}
 use Rattle.calls.specs.Reading.{spot_by}
-use Rattle.calls.specs.Counts.{entries_of, word_by}
+use Rattle.calls.specs.Counts.{entries_ok, entries_of, word_by}
 use Rattle.calls.specs.Range.{chunk_by, entry_from, clip_low}
-use Rattle.calls.specs.Iteration.{Filled, to, bad, filled_by, filled_at, fill_entry, and_next, fill_run, fill_from}
-use Rattle.iteration.specs.Turns.{filled}
-use Rattle.iteration.specs.declared.listing.Step.{Step}
-use Rattle.iteration.specs.declared.listing.Step.TheVariants.{To, Bad}
-use Rattle.entries.proofs.Runs.{Run}
-use Rattle.layout.proofs.Lent.{span, length_lent}
-use Rattle.calls.proofs.Spots.{InPages}
-
--- ---- a part
-
-by_fill : (ids : List ℤ) (k : ℕ) (ns ms : List ℕ) (out : List ℤ) (r : ℕ) → out ≡ fill ids k ns → r ≡ fill_to ids k ns → ns ≡ ms → to out r ≡ filled_by ids k ms
-by_fill ids k ns ms out r e f g = ap₂ to e f ∙ ap (filled_by ids k) g
-
-module _ (x : Mem) (b a : ℕ) (ids : List ℤ) (k w : ℕ) where
-  pub fill_spot : (q : Spot) → q ≡ spot_by x w → filled_at x b a ids k q ≡ filled_at x b a ids k (spot_by x w)
-  fill_spot q e = ap (filled_at x b a ids k) e
-
-  pub fill_row : (i n l s : ℕ) (out : List ℤ) (r : ℕ) → Row i n l ≡ spot_by x w → s ≡ get_or x.table 0 0
-      → out ≡ fill ids k (plus b (offsets_from (take (i + n - i) (drop i x.rows)) l (2 ^ s) a))
-      → r ≡ fill_to ids k (plus b (offsets_from (take (i + n - i) (drop i x.rows)) l (2 ^ s) a))
-      → to out r ≡ filled_at x b a ids k (spot_by x w)
-  fill_row i n l s out r e es f g =
-      by_fill ids k
-      (plus b (offsets_from (take (i + n - i) (drop i x.rows)) l (2 ^ s) a))
-      (plus b (offsets_from (take n (drop i x.rows)) l (top (head x)) a))
-      out r f g
-      (ap₂ (λ (j t : ℕ). plus b (offsets_from (take j (drop i x.rows)) l (2 ^ t) a)) (span i n) es)
-      ∙ fill_spot (Row i n l) e
-
-  pub fill_page : (i n : ℕ) (out : List ℤ) (r : ℕ) → Page i n ≡ spot_by x w → i + n ≤ length x.pages
-      → out ≡ fill ids k (plus b (members_in (is_set (take (i + n - i) (drop i x.pages))) a (64 * length (take (i + n - i) (drop i x.pages)) - a)))
-      → r ≡ fill_to ids k (plus b (members_in (is_set (take (i + n - i) (drop i x.pages))) a (64 * length (take (i + n - i) (drop i x.pages)) - a)))
-      → to out r ≡ filled_at x b a ids k (spot_by x w)
-  fill_page i n out r e h f g =
-      by_fill ids k
-      (plus b (members_in (is_set (take (i + n - i) (drop i x.pages))) a (64 * length (take (i + n - i) (drop i x.pages)) - a)))
-      (plus b (members_in (is_set (take n (drop i x.pages))) a (64 * n - a)))
-      out r f g
-      (ap₂ (λ (j m : ℕ). plus b (members_in (is_set (take j (drop i x.pages))) a (64 * m - a))) (span i n) (length_lent x.pages i n h))
-      ∙ fill_spot (Page i n) e
+use Rattle.calls.specs.Iteration.{Filled, to, bad, filled_at, fill_entry, and_next, fill_run, fill_from}
+use Rattle.entries.proofs.Runs.{run}
+use Rattle.std.specs.Prelude.{ℕ}
 
 -- what the leaves ask: ids that fit
 pub row_fits : (b : ℕ) {s t : ℕ} → s ≡ t → b + 2 ^ t ≤ 2 ^ 63 → b + 2 ^ s ≤ 2 ^ 63
 row_fits b e h = subst (λ (k : ℕ). b + 2 ^ k ≤ 2 ^ 63) (sym e) h
 
-pub page_fits : (pages : List ℕ) (s i n b : ℕ) → 9 ≤ s → s ≤ 25 → InPages s (length pages) i n → b + 2 ^ s ≤ 2 ^ 63 → b + 64 * length (take (i + n - i) (drop i pages)) ≤ 2 ^ 63
-page_fits pages s i n b l h q f = omega (arith, (powers s l h).words, q.wide, length_lent pages i n q.inside)
-
 -- ---- the ids of a chunk are below 2^63
 
-module _ (t : List ℕ) (s c : ℕ) (r : Run t) (e : s ≡ get_or t 0 0) (l : c < 2 ^ (63 - get_or t 0 0)) where
+module _ (t : List ℕ) (s c : ℕ) (ok : entries_ok t ≡ true) (e : s ≡ get_or t 0 0) (l : c < 2 ^ (63 - get_or t 0 0)) where
   last_within : c * 2 ^ get_or t 0 0 + 2 ^ get_or t 0 0 ≤ 2 ^ 63
-  last_within = rw (pow_drop (get_or t 0 0) 63 (omega (arith, r.high))) at (slot_within (2 ^ get_or t 0 0) c (2 ^ (63 - get_or t 0 0)) l)
+  last_within = rw (pow_drop (get_or t 0 0) 63 (omega (arith, (run t ok).high))) at (slot_within (2 ^ get_or t 0 0) c (2 ^ (63 - get_or t 0 0)) l)
 
   pub chunk_within : (b : ℕ) → b ≡ c * 2 ^ s → b + 2 ^ get_or t 0 0 ≤ 2 ^ 63
   chunk_within b f = let g : b ≡ c * 2 ^ get_or t 0 0 = f ∙ ap (λ (k : ℕ). c * 2 ^ k) e in omega (arith, last_within)
@@ -86,37 +41,35 @@ module _ (t : List ℕ) (s c : ℕ) (r : Run t) (e : s ≡ get_or t 0 0) (l : c 
       let g : c * 2 ^ s ≡ c * 2 ^ get_or t 0 0 = ap (λ (k : ℕ). c * 2 ^ k) e in
       omega (arith, last_within, pow_pos (get_or t 0 0))
 
-pub chunk_is : (x : Mem) (ids : List ℤ) (k w lo s c b a : ℕ) → s ≡ get_or x.table 0 0 → b ≡ c * 2 ^ s → a ≡ clip_low (2 ^ s) lo c
-    → filled_at x b a ids k (spot_by x w) ≡ filled_at x (c * top (head x)) (clip_low (top (head x)) lo c) ids k (spot_by x w)
-chunk_is x ids k w lo s c b a es eb ea =
-    ap₂ (λ (i j : ℕ). filled_at x i j ids k (spot_by x w)) (eb ∙ ap (λ (t : ℕ). c * 2 ^ t) es) (ea ∙ ap (λ (t : ℕ). clip_low (2 ^ t) lo c) es)
-
 -- ---- entry e
 
-pub last_is : (t s u : ℕ) → s ≡ t → u ≡ 2 ^ (63 - s) → u ≡ 2 ^ (63 - t)
-last_is t s u e f = f ∙ ap (λ (k : ℕ). 2 ^ (63 - k)) e
-
-module _ (x : Mem) (lo e : ℕ) (ids : List ℤ) (k c u : ℕ) (ec : c ≡ chunk_by x e) (eu : u ≡ last_chunk (head x)) where
+module _ (x : Mem) (lo e : ℕ) (ids : List ℤ) (k c s : ℕ) (ec : c ≡ chunk_by x e) (es : s ≡ get_or x.table 0 0) where
   by_word : Bool → ℕ → Filled
   by_word y w = cond y (filled_at x (chunk_by x e * top (head x)) (clip_low (top (head x)) lo (chunk_by x e)) ids k (spot_by x w)) bad
 
-  pub entry_bad : u ≤ c → bad ≡ fill_entry x lo e ids k
-  unfolding fill_entry by_word
-  entry_bad l = ap (λ (y : Bool). by_word y (word_by x e)) (sym (le-ltb (chunk_by x e) (last_chunk (head x)) (omega (arith, ec, eu))))
+  module _ (u : ℕ) (eu : u ≡ 2 ^ (63 - s)) where
+    last_is : u ≡ last_chunk (head x)
+    last_is = eu ∙ ap (λ (j : ℕ). 2 ^ (63 - j)) es
 
-  module _ (l : c < u) (w : ℕ) (ew : w ≡ word_by x e) where
-    by_entry : by_word true w ≡ fill_entry x lo e ids k
+    pub entry_bad : u ≤ c → bad ≡ fill_entry x lo e ids k
     unfolding fill_entry by_word
-    by_entry = ap₂ by_word (sym (lt-ltb (chunk_by x e) (last_chunk (head x)) (omega (arith, ec, eu)))) ew
+    entry_bad l = ap (λ (y : Bool). by_word y (word_by x e)) (sym (le-ltb (chunk_by x e) (last_chunk (head x)) (omega (arith, ec, last_is))))
 
-    pub entry_none : w ≡ 0 → to ids k ≡ fill_entry x lo e ids k
-    unfolding by_word spot_of
-    entry_none z = ap (by_word true) (sym z) ∙ by_entry
+    module _ (l : c < u) (w : ℕ) (ew : w ≡ word_by x e) where
+      pub entry_chunk : c < last_chunk (head x)
+      entry_chunk = omega (arith, last_is)
 
-    pub entry_some : (r : Filled) → r ≡ filled_at x (c * top (head x)) (clip_low (top (head x)) lo c) ids k (spot_by x w) → r ≡ fill_entry x lo e ids k
-    unfolding by_word
-    entry_some r f =
-        f ∙ (ap (λ (d : ℕ). filled_at x (d * top (head x)) (clip_low (top (head x)) lo d) ids k (spot_by x w)) ec ∙ by_entry)
+      by_entry : by_word true w ≡ fill_entry x lo e ids k
+      unfolding fill_entry by_word
+      by_entry = ap₂ by_word (sym (lt-ltb (chunk_by x e) (last_chunk (head x)) (omega (arith, ec, last_is)))) ew
+
+      pub entry_none : w ≡ 0 → to ids k ≡ fill_entry x lo e ids k
+      unfolding by_word spot_of
+      entry_none z = ap (by_word true) (sym z) ∙ by_entry
+
+      pub entry_some : filled_at x (c * top (head x)) (clip_low (top (head x)) lo c) ids k (spot_by x w) ≡ fill_entry x lo e ids k
+      unfolding by_word
+      entry_some = ap (λ (d : ℕ). filled_at x (d * top (head x)) (clip_low (top (head x)) lo d) ids k (spot_by x w)) ec ∙ by_entry
 
 -- ---- a turn
 
@@ -145,12 +98,11 @@ module _ (x : Mem) (lo : ℕ) where
           let e : suc (n - suc i) ≡ n - i = omega arith in
           ap₂ turned (sym (lt-ltb k 64 h)) f ∙ ap (λ (j : ℕ). fill_run x lo j i ids k) e
 
-      module _ (q : Step) (out : List ℤ) (f : filled q out ≡ fill_entry x lo i ids k) where
-        pub run_bad : q ≡ Bad → bad ≡ fill_run x lo (n - i) i ids k
-        run_bad g = opened bad (ap (λ (p : Step). filled p out) (sym g) ∙ f)
+      pub run_bad : bad ≡ fill_entry x lo i ids k → bad ≡ fill_run x lo (n - i) i ids k
+      run_bad f = opened bad f
 
-        pub run_next : (j : ℕ) → q ≡ To j → fill_run x lo (n - (i + 1)) (i + 1) out j ≡ fill_run x lo (n - i) i ids k
-        run_next j g = ap (λ (m : ℕ). fill_run x lo (n - m) m out j) (add-one i) ∙ opened (to out j) (ap (λ (p : Step). filled p out) (sym g) ∙ f)
+      pub run_next : (out : List ℤ) (j : ℕ) → to out j ≡ fill_entry x lo i ids k → fill_run x lo (n - (i + 1)) (i + 1) out j ≡ fill_run x lo (n - i) i ids k
+      run_next out j f = ap (λ (m : ℕ). fill_run x lo (n - m) m out j) (add-one i) ∙ opened (to out j) f
 
 -- ---- all entries from the start's chunk on
 

@@ -8,12 +8,12 @@ use lib.IntN.{ℤ, pos, negsuc, suc_ℤ, ◌+ℤ◌, +ℤ_one}
 use mir.Syntax.{w64}
 use mir.Val.{SFits, of_z, to_z}
 use mir.Facts.{to_z-of_z, to_z_pos}
-use Rattle.document.specs.declared.answer.Truth.{Truth}
-use Rattle.document.specs.declared.answer.Truth.TheVariants.{Is}
 use Rattle.layout.specs.Mem.{Mem}
 use Rattle.calls.specs.Counts.{entries_ok}
 use Rattle.calls.specs.Range.{any_by}
 use Rattle.scan.proofs.Ranges.{any_empty}
+use Rattle.document.specs.Results.{Truth}
+use Rattle.std.specs.Prelude.{Ok}
 
 -- 2 ^ 63 - 1 as a word
 abbrev pub largest : ℕ
@@ -41,17 +41,17 @@ module _ (z : ℤ) (f : SFits w64 z) where
     pub past_is : (x : Mem) (r : Truth) → r ≡ any_by x (to_z w64 (of_z w64 (to_z w64 (of_z w64 z) +ℤ pos 1))) (to_z w64 largest) → r ≡ any_by x (suc_ℤ z) (pos (2 ^ 63 - 1))
     past_is x r e = e ∙ ap₂ (any_by x) next_is (to_z_pos w64 (lit< tt))
 
-none_after : (x : Mem) → entries_ok x.table ≡ true → (z : ℤ) → SFits w64 z → of_z w64 z ≡ largest → Is false ≡ any_by x (suc_ℤ z) (pos (2 ^ 63 - 1))
+none_after : (x : Mem) → entries_ok x.table ≡ true → (z : ℤ) → SFits w64 z → of_z w64 z ≡ largest → Ok false ≡ any_by x (suc_ℤ z) (pos (2 ^ 63 - 1))
 none_after x ok (pos n) f e = any_empty x ok (pos (suc n)) (suc n) (2 ^ 63 - 1) refl (omega (arith, e))
 none_after x ok (negsuc n) f e = absurd (let l : n < 2 ^ 63 = f.sfits in omega (arith, e))
 
 module _ (x : Mem) (ok : entries_ok x.table ≡ true) (z : ℤ) (f : SFits w64 z) where
-  pub none_past : of_z w64 z ≡ largest → Is false ≡ any_by x (suc_ℤ z) (pos (2 ^ 63 - 1))
+  pub none_past : of_z w64 z ≡ largest → Ok false ≡ any_by x (suc_ℤ z) (pos (2 ^ 63 - 1))
   none_past e = none_after x ok z f e
 
   -- so that where there is one, the id is not the largest
-  pub some_past : (r : Truth) → r ≡ any_by x (suc_ℤ z) (pos (2 ^ 63 - 1)) → r ≡ Is true → of_z w64 z ≡ largest → ⊥
+  pub some_past : (r : Truth) → r ≡ any_by x (suc_ℤ z) (pos (2 ^ 63 - 1)) → r ≡ Ok true → of_z w64 z ≡ largest → ⊥
   some_past r e g h =
-      let n : Is false ≡ Is true = none_past h ∙ (sym e ∙ g) in
+      let n : Ok false ≡ Ok true = none_past h ∙ (sym e ∙ g) in
       let q : ◌≡◌ {A = ℕ} 0 1 = cc in
       omega arith

@@ -1,5 +1,5 @@
 -- The record of what was filled, way by way. Assumes nothing.
-use mathlib.Core.Path.{◌≡◌, sym, ◌∙◌, ap}
+use mathlib.Core.Path.{◌≡◌, sym, ◌∙◌, ap, ap₂}
 use mathlib.Core.Bool.{Bool, true, false, cond}
 use mathlib.Core.List.{List}
 use Prim.Native.Nat.{ℕ, ◌-◌, ◌^◌, ◌≤◌, ◌<◌}
@@ -10,17 +10,16 @@ use mir.Val.{SFits, of_z, to_z}
 use borrow.Author.Tests.{lt-ltb, le-ltb}
 use Rattle.numbers.proofs.Signs.{hop}
 use Rattle.document.specs.Iteration.{refused_listing}
-use Rattle.document.specs.declared.answer.Truth.{Truth}
-use Rattle.document.specs.declared.answer.Truth.TheVariants.{Is, Refused}
 use Rattle.document.specs.declared.answer.Listing.{Listing}
 use Rattle.layout.specs.Mem.{Mem}
 use Rattle.calls.specs.Counts.{entries_ok}
 use Rattle.calls.specs.Range.{any_by}
-use Rattle.calls.specs.Iteration.{to, fill_from, last_id, ended, ended_by, record_by, from_zero, iter_by}
-use Rattle.iteration.specs.Turns.{filled}
-use Rattle.iteration.specs.declared.listing.Step.{Step}
-use Rattle.iteration.specs.declared.listing.Step.TheVariants.{To, Bad}
+use Rattle.calls.specs.Iteration.{Filled, to, bad, fill_from, last_id, ended, ended_by, record_by, from_zero, iter_by}
 use Rattle.iteration.proofs.Nexts.{largest, next_is, some_past}
+use Rattle.document.specs.Refusals.{not_laid_out, number}
+use Rattle.document.specs.Results.{Truth}
+use Rattle.document.specs.declared.refusal.Refusal.{Refusal}
+use Rattle.std.specs.Prelude.{Ok, ℕ}
 
 -- ---- the record of k ids
 
@@ -46,40 +45,32 @@ module _ (x : Mem) (ids : List ℤ) (k : ℕ) (start : ℤ) (s : SFits w64 start
     unfolding by_mark
     full q g = ap (ended_by ids k start) (sym g ∙ asked) ∙ ap by_mark (sym (le-ltb k 64 l))
 
-    pub record_refused : (n : ℕ) → r ≡ Refused n → refused_listing n ≡ record_by x start (to ids k)
-    record_refused n g = full (Refused n) g
+    module _ (ok : entries_ok x.table ≡ true) (g : r ≡ Ok true) where
+      pub not_largest : of_z w64 (last_id ids) ≡ largest → ⊥
+      not_largest = some_past x ok (last_id ids) (record { sfits = f }) r asked g
 
-    module _ (b : Bool) (g : r ≡ Is b) where
-      pub record_ends : b ≡ false → ended ids k (to_z w64 (of_z w64 start)) ≡ record_by x start (to ids k)
-      record_ends h = ends ∙ full (Is false) (g ∙ ap Is h)
-
-      module _ (ok : entries_ok x.table ≡ true) (h : b ≡ true) where
-        pub not_largest : of_z w64 (last_id ids) ≡ largest → ⊥
-        not_largest = some_past x ok (last_id ids) (record { sfits = f }) r asked (g ∙ ap Is h)
-
-        pub record_goes : ◌≡◌ {A = Listing} (record { ids = ids; count = k; end = false; next = to_z w64 (of_z w64 (to_z w64 (of_z w64 (last_id ids)) +ℤ pos 1)); refusal = 0 }) (record_by x start (to ids k))
-        record_goes =
-            ap (λ (z : ℤ). record { ids = ids; count = k; end = false; next = z; refusal = 0 }) (next_is (last_id ids) (record { sfits = f }) not_largest)
-            ∙ full (Is true) (g ∙ ap Is h)
+      pub record_goes : (b : Bool) → b ≡ false → ◌≡◌ {A = Listing} (record { ids = ids; count = k; end = b; next = to_z w64 (of_z w64 (to_z w64 (of_z w64 (last_id ids)) +ℤ pos 1)); refusal = 0 }) (record_by x start (to ids k))
+      record_goes b h =
+          ap₂ (λ (c : Bool) (z : ℤ). record { ids = ids; count = k; end = c; next = z; refusal = 0 }) h (next_is (last_id ids) (record { sfits = f }) not_largest)
+          ∙ full (Ok true) g
 
 -- ---- all of it
 
 module _ (x : Mem) (start : ℤ) (s : SFits w64 start) where
   by_test : Bool → Listing
-  by_test b = cond b (record_by x start (fill_from x (from_zero start))) (refused_listing 3)
+  by_test b = cond b (record_by x start (fill_from x (from_zero start))) (refused_listing (number not_laid_out))
 
-  pub iter_refused : entries_ok x.table ≡ false → refused_listing 3 ≡ iter_by x start
+  pub iter_refused : entries_ok x.table ≡ false → refused_listing (number not_laid_out) ≡ iter_by x start
   unfolding iter_by by_test
   iter_refused h = ap by_test (sym h)
 
-  module _ (ok : entries_ok x.table ≡ true) (lo : ℕ) (el : lo ≡ from_zero (to_z w64 (of_z w64 start))) (q : Step) (ids : List ℤ) (e : filled q ids ≡ fill_from x lo) where
-    iter_is : (p : Step) → q ≡ p → record_by x start (filled p ids) ≡ iter_by x start
+  module _ (ok : entries_ok x.table ≡ true) (lo : ℕ) (el : lo ≡ from_zero (to_z w64 (of_z w64 start))) where
+    iter_is : (f : Filled) → f ≡ fill_from x lo → record_by x start f ≡ iter_by x start
     unfolding iter_by by_test
-    iter_is p g =
-        ap (record_by x start) (ap (λ (i : Step). filled i ids) (sym g) ∙ (e ∙ ap (fill_from x) (el ∙ hop from_zero start s))) ∙ ap by_test (sym ok)
+    iter_is f e = ap (record_by x start) (e ∙ ap (fill_from x) (el ∙ hop from_zero start s)) ∙ ap by_test (sym ok)
 
-    pub iter_bad : q ≡ Bad → refused_listing 3 ≡ iter_by x start
-    iter_bad g = iter_is Bad g
+    pub iter_bad : (n : Refusal) → n ≡ not_laid_out → bad ≡ fill_from x lo → refused_listing (number n) ≡ iter_by x start
+    iter_bad n g e = ap (λ (m : Refusal). refused_listing (number m)) g ∙ iter_is bad e
 
-    pub iter_to : (k : ℕ) (r : Listing) → q ≡ To k → r ≡ record_by x (to_z w64 (of_z w64 start)) (to ids k) → r ≡ iter_by x start
-    iter_to k r g f = f ∙ (hop (λ (z : ℤ). record_by x z (to ids k)) start s ∙ iter_is (To k) g)
+    pub iter_to : (ids : List ℤ) (k : ℕ) (r : Listing) → to ids k ≡ fill_from x lo → r ≡ record_by x (to_z w64 (of_z w64 start)) (to ids k) → r ≡ iter_by x start
+    iter_to ids k r e f = f ∙ (hop (λ (z : ℤ). record_by x z (to ids k)) start s ∙ iter_is (to ids k) e)

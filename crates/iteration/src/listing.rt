@@ -3,6 +3,7 @@ ghost use Rattle.std.specs.Prelude.{◌≡◌, true, ◌+◌, ◌-◌, ◌*◌, 
 ghost use Rattle.std.proofs.Math.IntN.{suc_ℤ};
 ghost use Rattle.document.specs.Calls.{iterate, listed};
 ghost use Rattle.document.specs.Iteration.{blank, refused_listing};
+ghost use Rattle.document.specs.Refusals.{number};
 ghost use Rattle.document.specs.Sizes.{top, last_chunk};
 ghost use Rattle.layout.specs.Mem.{mem};
 ghost use Rattle.layout.specs.Sizes.{header_at, head};
@@ -11,23 +12,17 @@ ghost use Rattle.calls.specs.Counts.{entries_ok};
 ghost use Rattle.calls.specs.Range.{any_by, clip_low};
 ghost use Rattle.calls.specs.Iteration.{to, filled_at, fill_entry, fill_run, fill_from, record_by};
 ghost use Rattle.contracts.specs.Does.{Answers};
-ghost use Rattle.iteration.specs.Turns.{filled};
+ghost use Rattle.iteration.specs.Turns.{Leaves};
 
-use document::answer::{Listing, Truth};
+use document::answer::Listing;
+use document::refusal::Refusal;
 use entries::clip;
 use layout::find::Spot;
 use layout::{entry, find, head};
 use numbers::power;
 use scan::range;
 
-// The first place of a record that is unused, or a part that is not inside its pool.
-#[derive(Clone, Copy)]
-enum Step {
-    To(usize),
-    Bad,
-}
-
-// The ids of the part that word w names, from an offset on, in the chunk whose first id is base.
+// The ids of the part that word w names, from an offset on, in the chunk whose first id is base. Answers the first place that is unused then.
 fn fill_at(
     pages: &[u64],
     rows: &[u32],
@@ -38,24 +33,23 @@ fn fill_at(
     w: u64,
     out: &mut [i64],
     k: usize,
-) -> Step
+) -> Result<usize, Refusal>
     requires { (9 ≤ (header_at table.now).s) × ((header_at table.now).s ≤ 25) × (base + 2 ^ (header_at table.now).s ≤ 2 ^ 63)
         × (from < 2 ^ (header_at table.now).s) × (k ≤ length out.old) }
     ensures { let x = mem pages.now rows.now blocks.now table.now in
-        filled result out.new ≡ filled_at x base from out.old k (spot_by x w) }
+        Leaves result out.new (filled_at x base from out.old k (spot_by x w)) }
 {
-    match find::spot_of(pages, rows, table, w) {
-        Spot::Nowhere => Step::To(k),
+    match find::spot_of(pages, rows, table, w)? {
+        Spot::Nowhere => Ok(k),
         Spot::Row(i, n, l) => {
             let j = i + n;
             let s = head::shift(table);
-            Step::To(sparse::list::ids(&rows[i..j], l, from as u32, base, s, out, k))
+            Ok(sparse::list::ids(&rows[i..j], l, from as u32, base, s, out, k))
         }
         Spot::Page(i, n) => {
             let j = i + n;
-            Step::To(dense::list::ids(&pages[i..j], from, base, out, k))
+            Ok(dense::list::ids(&pages[i..j], from, base, out, k))
         }
-        Spot::Bad => Step::Bad,
     }
 }
 
@@ -70,10 +64,10 @@ fn fill_chunk(
     w: u64,
     out: &mut [i64],
     k: usize,
-) -> Step
+) -> Result<usize, Refusal>
     requires { (entries_ok table.now ≡ true) × (c < last_chunk (header_at table.now)) × (k ≤ length out.old) }
     ensures { let x = mem pages.now rows.now blocks.now table.now in
-        filled result out.new ≡ filled_at x (c * top (head x)) (clip_low (top (head x)) lo c) out.old k (spot_by x w) }
+        Leaves result out.new (filled_at x (c * top (head x)) (clip_low (top (head x)) lo c) out.old k (spot_by x w)) }
 {
     let s = head::shift(table);
     let base = power::shifted(c, s);
@@ -91,19 +85,19 @@ fn fill_entry(
     e: u64,
     out: &mut [i64],
     k: usize,
-) -> Step
+) -> Result<usize, Refusal>
     requires { (entries_ok table.now ≡ true) × (e ≤ 327680) × (k ≤ length out.old) }
     ensures { let x = mem pages.now rows.now blocks.now table.now in
-        filled result out.new ≡ fill_entry x lo e out.old k }
+        Leaves result out.new (fill_entry x lo e out.old k) }
 {
     let s = head::shift(table);
     let c = entries::chunk(table, e);
     if power::pow2(63 - s) <= c {
-        return Step::Bad;
+        return Err(Refusal::NotLaidOut);
     }
     let w = entry::word_by(table, e);
     if w == 0 {
-        return Step::To(k);
+        return Ok(k);
     }
     fill_chunk(pages, rows, blocks, table, lo, c, w, out, k)
 }
@@ -118,21 +112,19 @@ fn fill_run(
     e: u64,
     n: u64,
     out: &mut [i64],
-) -> Step
+) -> Result<usize, Refusal>
     requires { (entries_ok table.now ≡ true) × (n ≤ 327680) × (64 ≤ length out.old) }
     ensures { let x = mem pages.now rows.now blocks.now table.now in
-        filled result out.new ≡ fill_run x lo (n - e) e out.old 0 }
+        Leaves result out.new (fill_run x lo (n - e) e out.old 0) }
 {
-    let mut i = e;
     let mut k: usize = 0;
-    while i < n && k < 64 {
-        let Step::To(j) = fill_entry(pages, rows, blocks, table, lo, i, out, k) else {
-            return Step::Bad;
-        };
-        k = j;
-        i += 1;
+    for i in e..n {
+        if k >= 64 {
+            break;
+        }
+        k = fill_entry(pages, rows, blocks, table, lo, i, out, k)?;
     }
-    Step::To(k)
+    Ok(k)
 }
 
 // Those that are not below lo, of all entries, into a blank record.
@@ -143,10 +135,10 @@ fn fill_from(
     table: &[u64],
     lo: u64,
     out: &mut [i64],
-) -> Step
+) -> Result<usize, Refusal>
     requires { (entries_ok table.now ≡ true) × (out.old ≡ blank) }
     ensures { let x = mem pages.now rows.now blocks.now table.now in
-        filled result out.new ≡ fill_from x lo }
+        Leaves result out.new (fill_from x lo) }
 {
     let e = clip::first(table, lo);
     let n = entries::number(table);
@@ -154,28 +146,33 @@ fn fill_from(
 }
 
 // Whether a member lies past an id. None lies past the largest, and no id past it is formed.
-fn any_past(pages: &[u64], rows: &[u32], blocks: &[u32], table: &[u64], last: i64) -> Truth
+fn any_past(
+    pages: &[u64],
+    rows: &[u32],
+    blocks: &[u32],
+    table: &[u64],
+    last: i64,
+) -> Result<bool, Refusal>
     requires { entries_ok table.now ≡ true }
     ensures { let x = mem pages.now rows.now blocks.now table.now in
         result ≡ any_by x (suc_ℤ last) (pos (2 ^ 63 - 1)) }
 {
     if last == i64::MAX {
-        return Truth::Is(false);
+        return Ok(false);
     }
     range::any_in_range(pages, rows, blocks, table, last + 1, i64::MAX)
 }
 
 // Every field but the refusal is 0.
-fn refused(n: u64) -> Listing
-    ensures { result ≡ refused_listing n }
+fn refused(n: Refusal) -> Listing
+    ensures { result ≡ refused_listing (number n) }
 {
-    let ids = [0i64; 64];
     Listing {
-        ids,
+        ids: [0; 64],
         count: 0,
         end: false,
         next: 0,
-        refusal: n,
+        refusal: n.number(),
     }
 }
 
@@ -205,25 +202,14 @@ fn record_of(
     }
     let last = ids[63];
     match any_past(pages, rows, blocks, table, last) {
-        Truth::Refused(n) => refused(n),
-        Truth::Is(b) => {
-            if b {
-                return Listing {
-                    ids,
-                    count,
-                    end: false,
-                    next: last + 1,
-                    refusal: 0,
-                };
-            }
-            Listing {
-                ids,
-                count,
-                end: true,
-                next: start,
-                refusal: 0,
-            }
-        }
+        Ok(more) => Listing {
+            ids,
+            count,
+            end: !more,
+            next: if more { last + 1 } else { start },
+            refusal: 0,
+        },
+        Err(n) => refused(n),
     }
 }
 
@@ -233,12 +219,12 @@ pub fn iter_from(pages: &[u64], rows: &[u32], blocks: &[u32], table: &[u64], sta
         Answers x (iterate start) (listed result) }
 {
     if !entries::are(table) {
-        return refused(3);
+        return refused(Refusal::NotLaidOut);
     }
     let lo = clip::from_zero(start);
     let mut ids = [0i64; 64];
-    let Step::To(k) = fill_from(pages, rows, blocks, table, lo, &mut ids) else {
-        return refused(3);
-    };
-    record_of(pages, rows, blocks, table, ids, k, start)
+    match fill_from(pages, rows, blocks, table, lo, &mut ids) {
+        Ok(k) => record_of(pages, rows, blocks, table, ids, k, start),
+        Err(n) => refused(n),
+    }
 }

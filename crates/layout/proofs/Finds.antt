@@ -10,8 +10,9 @@ use borrow.Author.Tests.{lt-ltb, le-ltb, le-leb, lt-leb, leb-true, eq-eqb, ne_eq
 use Rattle.sums.proofs.Rules.{both}
 use Rattle.layout.specs.Sizes.{direct_at, over_start, header_at, over_count}
 use Rattle.layout.specs.Short.{lower_key, key_at, over_place, over_word, entries_in, direct_word, overflow_word, word_in}
-use Rattle.layout.specs.declared.find.Word.{Word}
-use Rattle.layout.specs.declared.find.Word.TheVariants.{Is, Bad}
+use Rattle.document.specs.Refusals.{not_laid_out}
+use Rattle.layout.specs.Found.{Word}
+use Rattle.std.specs.Prelude.{Err, Ok}
 
 -- ---- the search
 
@@ -186,17 +187,17 @@ module _ (t : List ℕ) (a n c k : ℕ) where
 
 module _ (t : List ℕ) (d c : ℕ) where
   by_test : Bool → Word
-  by_test a = cond a (Is (over_word t (over_start d) (over_count t) c (over_place t (over_start d) (over_count t) c))) Bad
+  by_test a = cond a (Ok (over_word t (over_start d) (over_count t) c (over_place t (over_start d) (over_count t) c))) (Err not_laid_out)
 
-  pub over_none : entries_in t d ≡ false → Bad ≡ overflow_word t d c
+  pub over_none : entries_in t d ≡ false → (Err not_laid_out) ≡ overflow_word t d c
   unfolding by_test
   over_none g = ap by_test (sym g)
 
   pub over_found : entries_in t d ≡ true → (n k w : ℕ) → n ≡ over_count t → k ≡ over_place t (over_start d) n c → w ≡ over_word t (over_start d) n c k
-      → Is w ≡ overflow_word t d c
+      → Ok w ≡ overflow_word t d c
   unfolding by_test
   over_found g n k w en ek ew =
-      ap Is (ew ∙ ap (over_word t (over_start d) n c) ek ∙ ap (λ (j : ℕ). over_word t (over_start d) j c (over_place t (over_start d) j c)) en)
+      ap Ok (ew ∙ ap (over_word t (over_start d) n c) ek ∙ ap (λ (j : ℕ). over_word t (over_start d) j c (over_place t (over_start d) j c)) en)
       ∙ ap by_test (sym g)
 
 -- ---- any chunk's word
@@ -213,8 +214,8 @@ module _ (t : List ℕ) (c d : ℕ) (e : d ≡ (header_at t).d) where
     unfolding word_in
     direct = ap (λ (b : Bool). cond b (direct_word t c) (overflow_word t (header_at t).d c)) (sym (lt-ltb c (header_at t).d (omega (arith, e))))
 
-    pub in_table : direct_at c < length t → Is (get_or t (direct_at c) 0) ≡ word_in t c
-    in_table g = ap (λ (b : Bool). cond b (Is (get_or t (direct_at c) 0)) Bad) (sym (lt-ltb (direct_at c) (length t) g)) ∙ direct
+    pub in_table : direct_at c < length t → Ok (get_or t (direct_at c) 0) ≡ word_in t c
+    in_table g = ap (λ (b : Bool). cond b (Ok (get_or t (direct_at c) 0)) (Err not_laid_out)) (sym (lt-ltb (direct_at c) (length t) g)) ∙ direct
 
-    pub past_table : length t ≤ direct_at c → Bad ≡ word_in t c
-    past_table g = ap (λ (b : Bool). cond b (Is (get_or t (direct_at c) 0)) Bad) (sym (le-ltb (direct_at c) (length t) g)) ∙ direct
+    pub past_table : length t ≤ direct_at c → (Err not_laid_out) ≡ word_in t c
+    past_table g = ap (λ (b : Bool). cond b (Ok (get_or t (direct_at c) 0)) (Err not_laid_out)) (sym (le-ltb (direct_at c) (length t) g)) ∙ direct

@@ -10,8 +10,9 @@ use borrow.Author.Tests.{lt-ltb, le-ltb}
 use Rattle.layout.specs.Sizes.{direct_at, over_start, header_at, over_count, total_at}
 use Rattle.layout.specs.Short.{key_at, over_place, over_word, entries_in}
 use Rattle.layout.specs.Seat.{direct_seat, over_seat, overflow_seat, seat_in}
-use Rattle.layout.specs.declared.seat.Seat.{Seat}
-use Rattle.layout.specs.declared.seat.Seat.TheVariants.{At, Bad}
+use Rattle.document.specs.Refusals.{not_laid_out}
+use Rattle.layout.specs.Found.{Seat}
+use Rattle.std.specs.Prelude.{Err, Ok}
 
 -- ---- an overflow entry
 
@@ -20,23 +21,23 @@ module _ (t : List ℕ) (a n c k : ℕ) where
   own b = cond (b && eqb (key_at t a k) c) (get_or t (a + 3 * k + 1) 0) 0
 
   by_place : Bool → Seat
-  by_place b = cond b (At (cond (eqb (key_at t a k) c) (get_or t (a + 3 * k + 1) 0) 0) (get_or t (a + 3 * k + 2) 0)) (At 0 (total_at t))
+  by_place b = cond b (Ok (cond (eqb (key_at t a k) c) (get_or t (a + 3 * k + 1) 0) 0, get_or t (a + 3 * k + 2) 0)) (Ok (0, total_at t))
 
-  pub seat_past : n ≤ k → (v : ℕ) → v ≡ total_at t → At 0 v ≡ over_seat t a n c k
+  pub seat_past : n ≤ k → (v : ℕ) → v ≡ total_at t → Ok (0, v) ≡ over_seat t a n c k
   unfolding by_place
-  seat_past l v e = ap (At 0) e ∙ ap by_place (sym (le-ltb k n l))
+  seat_past l v e = ap (λ (u : ℕ). Ok (0, u)) e ∙ ap by_place (sym (le-ltb k n l))
 
-  pub seat_there : k < n → (w v : ℕ) → w ≡ over_word t a n c k → v ≡ get_or t (a + 3 * k + 2) 0 → At w v ≡ over_seat t a n c k
+  pub seat_there : k < n → (w v : ℕ) → w ≡ over_word t a n c k → v ≡ get_or t (a + 3 * k + 2) 0 → Ok (w, v) ≡ over_seat t a n c k
   unfolding by_place own
-  seat_there l w v e f = ap₂ At (e ∙ ap own (lt-ltb k n l)) f ∙ ap by_place (sym (lt-ltb k n l))
+  seat_there l w v e f = ap₂ (λ (x y : ℕ). Ok (x, y)) (e ∙ ap own (lt-ltb k n l)) f ∙ ap by_place (sym (lt-ltb k n l))
 
 -- ---- a chunk past the direct entries
 
 module _ (t : List ℕ) (d c : ℕ) where
   by_test : Bool → Seat
-  by_test a = cond a (over_seat t (over_start d) (over_count t) c (over_place t (over_start d) (over_count t) c)) Bad
+  by_test a = cond a (over_seat t (over_start d) (over_count t) c (over_place t (over_start d) (over_count t) c)) (Err not_laid_out)
 
-  pub seat_none : entries_in t d ≡ false → Bad ≡ overflow_seat t d c
+  pub seat_none : entries_in t d ≡ false → (Err not_laid_out) ≡ overflow_seat t d c
   unfolding by_test
   seat_none g = ap by_test (sym g)
 
@@ -64,8 +65,8 @@ module _ (t : List ℕ) (c d : ℕ) (e : d ≡ (header_at t).d) where
     unfolding seat_in by_direct
     direct = ap by_direct (sym (lt-ltb c (header_at t).d (omega (arith, e))))
 
-    pub in_table : direct_at c + 1 < length t → At (get_or t (direct_at c) 0) (get_or t (direct_at c + 1) 0) ≡ seat_in t c
-    in_table g = ap (λ (b : Bool). cond b (At (get_or t (direct_at c) 0) (get_or t (direct_at c + 1) 0)) Bad) (sym (lt-ltb (direct_at c + 1) (length t) g)) ∙ direct
+    pub in_table : direct_at c + 1 < length t → Ok ((get_or t (direct_at c) 0), (get_or t (direct_at c + 1) 0)) ≡ seat_in t c
+    in_table g = ap (λ (b : Bool). cond b (Ok ((get_or t (direct_at c) 0), (get_or t (direct_at c + 1) 0))) (Err not_laid_out)) (sym (lt-ltb (direct_at c + 1) (length t) g)) ∙ direct
 
-    pub past_table : length t ≤ direct_at c + 1 → Bad ≡ seat_in t c
-    past_table g = ap (λ (b : Bool). cond b (At (get_or t (direct_at c) 0) (get_or t (direct_at c + 1) 0)) Bad) (sym (le-ltb (direct_at c + 1) (length t) g)) ∙ direct
+    pub past_table : length t ≤ direct_at c + 1 → (Err not_laid_out) ≡ seat_in t c
+    past_table g = ap (λ (b : Bool). cond b (Ok ((get_or t (direct_at c) 0), (get_or t (direct_at c + 1) 0))) (Err not_laid_out)) (sym (le-ltb (direct_at c + 1) (length t) g)) ∙ direct

@@ -16,10 +16,12 @@ use Rattle.document.specs.declared.sizes.Sizes.{Sizes}
 use Rattle.layout.specs.Sizes.{header_at}
 use Rattle.layout.specs.Places.{decoded}
 use Rattle.layout.specs.Short.{spot_at, spot_of}
-use Rattle.layout.specs.declared.find.Spot.{Spot}
-use Rattle.layout.specs.declared.find.Spot.TheVariants.{Row, Page, Bad}
 use Rattle.layout.specs.declared.place.Place.{Place}
 use Rattle.layout.specs.declared.place.Place.TheVariants.{Sparse, Dense}
+use Rattle.document.specs.Refusals.{not_laid_out}
+use Rattle.layout.specs.Found.{Spotted}
+use Rattle.layout.specs.declared.find.Spot.TheVariants.{Page, Row}
+use Rattle.std.specs.Prelude.{Err, Ok}
 
 -- by the word's place
 pub spot_way : (h : Sizes) (pages rows w : ℕ) (q p : Place) → q ≡ decoded w → q ≡ p → spot_at h pages rows p ≡ spot_of h pages rows w
@@ -32,14 +34,14 @@ module _ (t : List ℕ) (rows r l m n : ℕ) (em : m ≡ (header_at t).m) (en : 
   abbrev row_last : Bool
   row_last = leb (r * (header_at t).m + (header_at t).m) rows
 
-  by_row : Bool → Bool → Spot
-  by_row a b = cond (a && b) (Row (r * (header_at t).m) (header_at t).m l) Bad
+  by_row : Bool → Bool → Spotted
+  by_row a b = cond (a && b) (Ok (Row (r * (header_at t).m) (header_at t).m l)) (Err not_laid_out)
 
   row_first : (b : Bool) → (ltb r n && leb m 1024 && leb l m) ≡ b → by_row b row_last ≡ spot_at (header_at t) 0 rows (Sparse r l)
   unfolding by_row
   row_first b h = ap (λ (a : Bool). by_row a row_last) (sym h ∙ ap₂ (λ (i j : ℕ). ltb r j && leb i 1024 && leb l i) em en)
 
-  pub row_no : not (ltb r n && leb m 1024 && leb l m) ≡ true → Bad ≡ spot_at (header_at t) 0 rows (Sparse r l)
+  pub row_no : not (ltb r n && leb m 1024 && leb l m) ≡ true → (Err not_laid_out) ≡ spot_at (header_at t) 0 rows (Sparse r l)
   unfolding by_row
   row_no h = row_first false (not-true _ h)
 
@@ -54,14 +56,14 @@ module _ (t : List ℕ) (rows r l m n : ℕ) (em : m ≡ (header_at t).m) (en : 
       row_starts : a ≡ r * (header_at t).m
       row_starts = ea ∙ ap (λ (i : ℕ). r * i) em
 
-      pub row_out : rows < a + m → Bad ≡ spot_at (header_at t) 0 rows (Sparse r l)
+      pub row_out : rows < a + m → (Err not_laid_out) ≡ spot_at (header_at t) 0 rows (Sparse r l)
       unfolding by_row
       row_out i = ap (by_row true) (sym (lt-leb (r * (header_at t).m + (header_at t).m) rows (omega (arith, row_starts, em)))) ∙ row_first true (not-false _ h)
 
-      pub row_there : a + m ≤ rows → Row a m l ≡ spot_at (header_at t) 0 rows (Sparse r l)
+      pub row_there : a + m ≤ rows → Ok (Row a m l) ≡ spot_at (header_at t) 0 rows (Sparse r l)
       unfolding by_row
       row_there i =
-          ap₂ (λ (b k : ℕ). Row b k l) row_starts em
+          ap₂ (λ (b k : ℕ). Ok (Row b k l)) row_starts em
           ∙ ap (by_row true) (sym (le-leb (r * (header_at t).m + (header_at t).m) rows (omega (arith, row_starts, em))))
           ∙ row_first true (not-false _ h)
 
@@ -83,8 +85,8 @@ module _ (t : List ℕ) (pages p k n b : ℕ) (ek : k ≡ (header_at t).s - 6) (
   abbrev width : ℕ
   width = 2 ^ ((header_at t).s - 6)
 
-  by_page : Bool → Spot
-  by_page a = cond a (Page (p * width) width) Bad
+  by_page : Bool → Spotted
+  by_page a = cond a (Ok (Page (p * width) width)) (Err not_laid_out)
 
   wide_some : 0 < 2 ^ k
   wide_some = pow_pos k
@@ -94,7 +96,7 @@ module _ (t : List ℕ) (pages p k n b : ℕ) (ek : k ≡ (header_at t).s - 6) (
       ap₂ ◌&&◌ (ap (ltb p) en)
       (ap (ltb p) eb ∙ page_ends p (2 ^ k) pages wide_some ∙ ap (λ (j : ℕ). leb (p * 2 ^ j + 2 ^ j) pages) ek)
 
-  pub page_no : not (ltb p n && ltb p b) ≡ true → Bad ≡ spot_at (header_at t) pages 0 (Dense p)
+  pub page_no : not (ltb p n && ltb p b) ≡ true → (Err not_laid_out) ≡ spot_at (header_at t) pages 0 (Dense p)
   unfolding by_page
   page_no h = ap by_page (sym (not-true _ h) ∙ page_test)
 
@@ -104,8 +106,8 @@ module _ (t : List ℕ) (pages p k n b : ℕ) (ek : k ≡ (header_at t).s - 6) (
         leb-true (p * 2 ^ k + 2 ^ k) pages
         (sym (page_ends p (2 ^ k) pages wide_some) ∙ ap (ltb p) (sym eb) ∙ (both (ltb p n) (ltb p b) (not-false _ h)).1)
 
-    pub page_there : (a w : ℕ) → a ≡ p * 2 ^ k → w ≡ 2 ^ k → Page a w ≡ spot_at (header_at t) pages 0 (Dense p)
+    pub page_there : (a w : ℕ) → a ≡ p * 2 ^ k → w ≡ 2 ^ k → Ok (Page a w) ≡ spot_at (header_at t) pages 0 (Dense p)
     unfolding by_page
     page_there a w ea ew =
-        ap₂ Page (ea ∙ ap (λ (j : ℕ). p * 2 ^ j) ek) (ew ∙ ap (λ (j : ℕ). 2 ^ j) ek)
+        ap₂ (λ (x y : ℕ). Ok (Page x y)) (ea ∙ ap (λ (j : ℕ). p * 2 ^ j) ek) (ew ∙ ap (λ (j : ℕ). 2 ^ j) ek)
         ∙ ap by_page (sym (not-false _ h) ∙ page_test)

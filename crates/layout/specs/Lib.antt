@@ -8,6 +8,7 @@ pub mod Follows
 pub mod Free
 pub mod Tests
 pub mod SetUp
+pub mod Found
 pub mod Short
 pub mod Part
 pub mod Seat

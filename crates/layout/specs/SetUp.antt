@@ -1,12 +1,11 @@
 -- Set-up: an empty open set, elements past the sizes as they were.
-use Rattle.std.specs.Prelude.{ℕ, ◌*◌, ◌-◌, List, ◌∷◌, ◌++◌, cond, drop, replicate}
+use Rattle.std.specs.Prelude.{ℕ, ◌*◌, ◌-◌, List, ◌∷◌, ◌++◌, cond, drop, replicate, Ok, Err}
 use Rattle.layout.specs.Mem.{Mem, mem}
 use Rattle.layout.specs.Sizes.{wide, blocks_of, table_size}
 use Rattle.layout.specs.Tests.{in_range, room_in}
 use Rattle.document.specs.Refusals.{outside_sizes, too_short}
 use Rattle.document.specs.declared.sizes.Sizes.{Sizes}
-use Rattle.document.specs.declared.answer.Outcome.{Outcome}
-use Rattle.document.specs.declared.answer.Outcome.TheVariants.{Done, Refused}
+use Rattle.document.specs.Results.{Outcome}
 
 -- an answer, and memory after the call
 pub record Did : Type 0 where
@@ -31,4 +30,4 @@ fresh h x = mem (zeroed (h.p * wide h) x.pages) (zeroed (h.r * h.m) x.rows) (zer
 
 -- refusal 1, then 2
 unfoldable pub set_up_by : Sizes → Mem → Did
-set_up_by h x = cond (in_range h) (cond (room_in h x) (did Done (fresh h x)) (did (Refused too_short) x)) (did (Refused outside_sizes) x)
+set_up_by h x = cond (in_range h) (cond (room_in h x) (did (Ok tt) (fresh h x)) (did (Err too_short) x)) (did (Err outside_sizes) x)

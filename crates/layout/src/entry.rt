@@ -19,7 +19,7 @@ pub fn chunk_at(table: &[u64], h: Sizes, e: u64) -> u64
     if e < h.d {
         return e;
     }
-    element::at(table, 16 + 2 * h.d + 3 * (e - h.d))
+    element::at(table, 16 + 2 * h.d + 3 * (e - h.d), 0)
 }
 
 // The word of entry e.
@@ -28,9 +28,9 @@ pub fn word_at(table: &[u64], h: Sizes, e: u64) -> u64
     ensures { result ≡ word_at h table.now e }
 {
     if e < h.d {
-        return element::at(table, 16 + 2 * e);
+        return element::at(table, 16 + 2 * e, 0);
     }
-    element::at(table, 16 + 2 * h.d + 3 * (e - h.d) + 1)
+    element::at(table, 16 + 2 * h.d + 3 * (e - h.d) + 1, 0)
 }
 
 // The word of overflow entry j.
@@ -38,7 +38,7 @@ pub fn over_word(table: &[u64], h: Sizes, j: u64) -> u64
     requires { InRange h × (j ≤ 65536) }
     ensures { result ≡ get_or table.now (over_at h j + 1) 0 }
 {
-    element::at(table, 16 + 2 * h.d + 3 * j + 1)
+    element::at(table, 16 + 2 * h.d + 3 * j + 1, 0)
 }
 
 // The word of entry e by D alone.
@@ -48,9 +48,9 @@ pub fn word_by(table: &[u64], e: u64) -> u64
 {
     let d = head::direct(table);
     if e < d {
-        return element::at(table, 16 + 2 * e);
+        return element::at(table, 16 + 2 * e, 0);
     }
-    element::at(table, 16 + 2 * d + 3 * (e - d) + 1)
+    element::at(table, 16 + 2 * d + 3 * (e - d) + 1, 0)
 }
 
 // The prefix of entry e.
@@ -59,9 +59,9 @@ pub fn prefix_at(table: &[u64], h: Sizes, e: u64) -> u64
     ensures { result ≡ prefix_at h table.now e }
 {
     if e < h.d {
-        return element::at(table, 16 + 2 * e + 1);
+        return element::at(table, 16 + 2 * e + 1, 0);
     }
-    element::at(table, 16 + 2 * h.d + 3 * (e - h.d) + 2)
+    element::at(table, 16 + 2 * h.d + 3 * (e - h.d) + 2, 0)
 }
 
 // What the word of entry e says.
@@ -77,7 +77,7 @@ pub fn row_owner(table: &[u64], h: Sizes, r: u64) -> u64
     requires { InRange h × (r ≤ 65536) }
     ensures { result ≡ row_owner h table.now r }
 {
-    element::at(table, 16 + 2 * h.d + 3 * h.v + r)
+    element::at(table, 16 + 2 * h.d + 3 * h.v + r, 0)
 }
 
 // The chunk that has page p, plus 1; 0 where it is free.
@@ -85,7 +85,7 @@ pub fn page_owner(table: &[u64], h: Sizes, p: u64) -> u64
     requires { InRange h × (p ≤ 65536) }
     ensures { result ≡ page_owner h table.now p }
 {
-    element::at(table, 16 + 2 * h.d + 3 * h.v + h.r + p)
+    element::at(table, 16 + 2 * h.d + 3 * h.v + h.r + p, 0)
 }
 
 // The chunk id of entry e by header word 2 alone.
@@ -97,7 +97,7 @@ pub fn chunk_by(table: &[u64], e: u64) -> u64
     if e < d {
         return e;
     }
-    element::at(table, 16 + 2 * d + 3 * (e - d))
+    element::at(table, 16 + 2 * d + 3 * (e - d), 0)
 }
 
 // ---- eight direct entries at once

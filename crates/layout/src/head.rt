@@ -19,77 +19,77 @@ pub const RANKED: u64 = 1;
 pub fn shift(table: &[u64]) -> u64
     ensures { result ≡ (header_at table.now).s }
 {
-    element::at(table, 0)
+    element::at(table, 0, 0)
 }
 
 // m, the members that a row has room for.
 pub fn row_size(table: &[u64]) -> u64
     ensures { result ≡ (header_at table.now).m }
 {
-    element::at(table, 1)
+    element::at(table, 1, 0)
 }
 
 // D, the direct entries.
 pub fn direct(table: &[u64]) -> u64
     ensures { result ≡ (header_at table.now).d }
 {
-    element::at(table, 2)
+    element::at(table, 2, 0)
 }
 
 // V, the overflow entries.
 pub fn overflow(table: &[u64]) -> u64
     ensures { result ≡ (header_at table.now).v }
 {
-    element::at(table, 3)
+    element::at(table, 3, 0)
 }
 
 // R, the rows.
 pub fn rows(table: &[u64]) -> u64
     ensures { result ≡ (header_at table.now).r }
 {
-    element::at(table, 4)
+    element::at(table, 4, 0)
 }
 
 // P, the pages.
 pub fn pages(table: &[u64]) -> u64
     ensures { result ≡ (header_at table.now).p }
 {
-    element::at(table, 5)
+    element::at(table, 5, 0)
 }
 
 // Open or ranked.
 pub fn mode(table: &[u64]) -> u64
     ensures { result ≡ mode_at table.now }
 {
-    element::at(table, 6)
+    element::at(table, 6, 0)
 }
 
 // The overflow entries in use.
 pub fn over_count(table: &[u64]) -> u64
     ensures { result ≡ over_count table.now }
 {
-    element::at(table, 7)
+    element::at(table, 7, 0)
 }
 
 // The members, where the set is ranked.
 pub fn total(table: &[u64]) -> u64
     ensures { result ≡ total_at table.now }
 {
-    element::at(table, 8)
+    element::at(table, 8, 0)
 }
 
 // No row below it is free.
 pub fn rows_from(table: &[u64]) -> u64
     ensures { result ≡ rows_from table.now }
 {
-    element::at(table, 9)
+    element::at(table, 9, 0)
 }
 
 // No page below it is free.
 pub fn pages_from(table: &[u64]) -> u64
     ensures { result ≡ pages_from table.now }
 {
-    element::at(table, 10)
+    element::at(table, 10, 0)
 }
 
 // The set is open or ranked from now on.

@@ -16,14 +16,14 @@ use Rattle.layout.specs.Follows.{Owned}
 use Rattle.layout.specs.Tests.{Walked}
 use Rattle.layout.specs.Short.{key_at, over_place, over_word, entries_in, direct_word, overflow_word, word_in, spot_on, spot_fits, spot_at, spot_of}
 use Rattle.document.specs.declared.sizes.Sizes.{Sizes}
-use Rattle.layout.specs.declared.find.Word.TheVariants as word
-use Rattle.layout.specs.declared.find.Spot.TheVariants.{Bad}
 use Rattle.layout.specs.declared.place.Place.{Place}
 use Rattle.layout.specs.declared.place.Place.TheVariants.{Absent, Sparse, Dense}
 use Rattle.layout_laws.proofs.Sizes.{slot_inside}
 use Rattle.layout_laws.proofs.Keys.{rising_by, beside_cut}
 use Rattle.layout_laws.proofs.Halving.{lower_first}
 use Rattle.layout_laws.proofs.Entries.{Ordered, walked_ordered, word_direct, word_of_direct, word_of_over, place_of_any}
+use Rattle.document.specs.Refusals.{not_laid_out}
+use Rattle.std.specs.Prelude.{Err, Ok}
 
 -- ---- a chunk's word
 
@@ -47,21 +47,21 @@ entries_inside x z room f =
     (ap₂ ◌&&◌ (ap₂ ◌&&◌ (le-leb d 262144 z.d_high) (le-leb n 65536 (omega arith))) (le-leb (16 + 2 * d + 3 * n) (length x.table) (omega arith)))
     (le-leb n (head x).v f)
 
-pub word_in_is : (x : Mem) → Walked x (head x) → (c : ℕ) → word_in x.table c ≡ word.Is (word_of (head x) x.table c)
+pub word_in_is : (x : Mem) → Walked x (head x) → (c : ℕ) → word_in x.table c ≡ Ok (word_of (head x) x.table c)
 unfolding word_in
 word_in_is x w c = go (ltb c (get_or x.table 2 0)) refl
   where
-    go : (b : Bool) → ltb c (get_or x.table 2 0) ≡ b → cond b (direct_word x.table c) (overflow_word x.table (get_or x.table 2 0) c) ≡ word.Is (word_of (head x) x.table c)
+    go : (b : Bool) → ltb c (get_or x.table 2 0) ≡ b → cond b (direct_word x.table c) (overflow_word x.table (get_or x.table 2 0) c) ≡ Ok (word_of (head x) x.table c)
     go true e =
         let l = ltb-true c (get_or x.table 2 0) e in
         let r = w.room.in_table in
-        ap (λ (b : Bool). cond b (word.Is (get_or x.table (direct_at c) 0)) word.Bad) (lt-ltb (direct_at c) (length x.table) (omega arith))
-        ∙ ap word.Is (sym (word_of_direct (head x) x.table (walked_ordered w) c l ∙ word_direct (head x) x.table c l))
+        ap (λ (b : Bool). cond b (Ok (get_or x.table (direct_at c) 0)) (Err not_laid_out)) (lt-ltb (direct_at c) (length x.table) (omega arith))
+        ∙ ap Ok (sym (word_of_direct (head x) x.table (walked_ordered w) c l ∙ word_direct (head x) x.table c l))
     go false e =
         let l = ltb-false c (get_or x.table 2 0) e in
-        ap (λ (b : Bool). cond b (word.Is (over_word x.table (16 + 2 * get_or x.table 2 0) (over_count x.table) c (over_place x.table (16 + 2 * get_or x.table 2 0) (over_count x.table) c))) word.Bad)
+        ap (λ (b : Bool). cond b (Ok (over_word x.table (16 + 2 * get_or x.table 2 0) (over_count x.table) c (over_place x.table (16 + 2 * get_or x.table 2 0) (over_count x.table) c))) (Err not_laid_out))
         (entries_inside x w.sizes w.room w.over_fits)
-        ∙ ap word.Is (over_word_is (head x) x.table (walked_ordered w) c l)
+        ∙ ap Ok (over_word_is (head x) x.table (walked_ordered w) c l)
 
 -- ---- a place's part of its pool
 
@@ -83,7 +83,7 @@ place_inside x h z r c (Dense p) u =
     ap₂ ◌&&◌ (lt-ltb p h.p u.there) (le-leb (p * wide h + wide h) (length x.pages) (omega arith))
 
 pub spot_inside : (x : Mem) (h : Sizes) → InRange h → RoomIn h x → (c : ℕ) (p : Place) → Owned h x.table c p → spot_at h (length x.pages) (length x.rows) p ≡ spot_on h p
-spot_inside x h z r c p u = ap (λ (b : Bool). cond b (spot_on h p) Bad) (place_inside x h z r c p u)
+spot_inside x h z r c p u = ap (λ (b : Bool). cond b (spot_on h p) (Err not_laid_out)) (place_inside x h z r c p u)
 
 pub spot_is : {x : Mem} {h : Sizes} → Walked x h → (c : ℕ) → spot_of h (length x.pages) (length x.rows) (word_of h x.table c) ≡ spot_on h (place_of h x.table c)
 unfolding spot_of

@@ -18,8 +18,6 @@ use Rattle.layout.specs.SetUp.{Did, did, zeroed, fresh, set_up_by}
 use Rattle.layout.specs.Writes.{put_part, added, added_if, over_put, put_word, put_prefix, put_row_owner, put_page_owner}
 use Rattle.layout.specs.Spare.{Beyond, Spare}
 use Rattle.document.specs.declared.sizes.Sizes.{Sizes}
-use Rattle.document.specs.declared.answer.Outcome.TheVariants.{Done, Refused}
-use Rattle.layout.specs.declared.find.Word.TheVariants as word
 use Rattle.layout.proofs.Finds.{EntriesIn, entries_are_in}
 use Rattle.layout.proofs.Tests.{room_of}
 use Rattle.layout.proofs.Zeroed.{zeroed_past, zeroed_length}
@@ -33,6 +31,8 @@ use Rattle.layout_laws.proofs.Entries.{chunk_direct, chunk_over, Which, which, O
 use Rattle.layout_laws.proofs.Halving.{lower_between, lower_first}
 use Rattle.layout_laws.proofs.Short.{over_rising}
 use Rattle.layout_laws.proofs.Fresh.{fresh_table_past, fresh_table_length}
+use Rattle.document.specs.Refusals.{not_laid_out, outside_sizes, too_short}
+use Rattle.std.specs.Prelude.{Err, Ok}
 
 -- ---- a write below n leaves what lies from n on
 
@@ -187,15 +187,15 @@ module _ (t : List ℕ) (c w : ℕ) (some : w ≢ 0) where
   known_over in_table true p false q e = absurd (some (sym e))
   known_over in_table false p b q e = absurd (some (sym e))
 
-  known_in : (a : Bool) (u : ℕ) → cond a (word.Is u) word.Bad ≡ word.Is w → (a ≡ true) × (u ≡ w)
+  known_in : (a : Bool) (u : ℕ) → cond a (Ok u) (Err not_laid_out) ≡ Ok w → (a ≡ true) × (u ≡ w)
   known_in true u e = (refl, cc)
   known_in false u e = absurd (let z : ◌≡◌ {A = ℕ} 0 1 = cc in omega arith)
 
-  pub room_known : word_in t c ≡ word.Is w → EntryRoom (header_at t) t c
+  pub room_known : word_in t c ≡ Ok w → EntryRoom (header_at t) t c
   unfolding word_in
   room_known e = go (ltb c (header_at t).d) refl e
     where
-      go : (b : Bool) → ltb c (header_at t).d ≡ b → cond b (direct_word t c) (overflow_word t (header_at t).d c) ≡ word.Is w → EntryRoom (header_at t) t c
+      go : (b : Bool) → ltb c (header_at t).d ≡ b → cond b (direct_word t c) (overflow_word t (header_at t).d c) ≡ Ok w → EntryRoom (header_at t) t c
       go true q e = direct (ltb-true c (header_at t).d q)
       go false q e =
           let k = known_in (entries_in t (header_at t).d) (over_word t (16 + 2 * (header_at t).d) (over_count t) c at) e in
@@ -262,6 +262,6 @@ fresh_spare h x room =
 pub set_up_spare : (h : Sizes) (x : Mem) → Spare h x (set_up_by h x).after
 unfolding set_up_by
 set_up_spare h x =
-    spare_if (in_range h) (cond (room_in h x) (did Done (fresh h x)) (did (Refused 2) x)) (did (Refused 1) x)
-    (λ a. spare_if (room_in h x) (did Done (fresh h x)) (did (Refused 2) x) (λ b. fresh_spare h x ((room_of h x).sound b)) (λ b. spare_same))
+    spare_if (in_range h) (cond (room_in h x) (did (Ok tt) (fresh h x)) (did (Err too_short) x)) (did (Err outside_sizes) x)
+    (λ a. spare_if (room_in h x) (did (Ok tt) (fresh h x)) (did (Err too_short) x) (λ b. fresh_spare h x ((room_of h x).sound b)) (λ b. spare_same))
     (λ a. spare_same)

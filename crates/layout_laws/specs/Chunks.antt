@@ -1,5 +1,5 @@
 -- What is said of one chunk, by its place: its members, its kind as a yes or no.
-use Rattle.std.specs.Prelude.{ℕ, ◌+◌, List, Bool, false, cond, take, drop, ltb}
+use Rattle.std.specs.Prelude.{ℕ, ◌+◌, List, Bool, false, cond, take, drop, ltb, Ok, Err}
 use Rattle.sums.specs.Ids.{count}
 use Rattle.sparse.specs.Row.{row_of, member, below_of}
 use Rattle.dense.specs.Bits.{is_set, bits_to}
@@ -11,23 +11,23 @@ use Rattle.layout.specs.Entries.{entries, prefix_at, place_of}
 use Rattle.layout.specs.Meaning.{offsets}
 use Rattle.layout.specs.Short.{over_place}
 use Rattle.document.specs.declared.sizes.Sizes.{Sizes}
-use Rattle.layout.specs.declared.find.Spot.{Spot}
-use Rattle.layout.specs.declared.find.Spot.TheVariants.{Nowhere, Row, Page, Bad}
 use Rattle.layout.specs.declared.place.Place.{Place}
 use Rattle.layout.specs.declared.place.Place.TheVariants.{Absent, Sparse, Dense}
+use Rattle.layout.specs.Found.{Spotted}
+use Rattle.layout.specs.declared.find.Spot.TheVariants.{Nowhere, Page, Row}
 
 -- what a part holds: whether offset o is in it, and how many below o
-abbrev pub spot_has : Mem → Spot → ℕ → Bool
-spot_has x Nowhere o = false
-spot_has x (Row a m l) o = member (row_of (take m (drop a x.rows))) l o
-spot_has x (Page a k) o = is_set (take k (drop a x.pages)) o
-spot_has x Bad o = false
+abbrev pub spot_has : Mem → Spotted → ℕ → Bool
+spot_has x (Ok Nowhere) o = false
+spot_has x (Ok (Row a m l)) o = member (row_of (take m (drop a x.rows))) l o
+spot_has x (Ok (Page a k)) o = is_set (take k (drop a x.pages)) o
+spot_has x (Err n) o = false
 
-abbrev pub spot_below : Mem → Spot → ℕ → ℕ
-spot_below x Nowhere o = 0
-spot_below x (Row a m l) o = below_of (row_of (take m (drop a x.rows))) l o
-spot_below x (Page a k) o = bits_to (take k (drop a x.pages)) o
-spot_below x Bad o = 0
+abbrev pub spot_below : Mem → Spotted → ℕ → ℕ
+spot_below x (Ok Nowhere) o = 0
+spot_below x (Ok (Row a m l)) o = below_of (row_of (take m (drop a x.rows))) l o
+spot_below x (Ok (Page a k)) o = bits_to (take k (drop a x.pages)) o
+spot_below x (Err n) o = 0
 
 -- the entry of the first chunk that is not below c
 unfoldable pub first_entry : Sizes → List ℕ → ℕ → ℕ

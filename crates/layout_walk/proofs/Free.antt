@@ -1,8 +1,10 @@
 -- The search for the first free place, turn by turn, and the owners counted. Assumes nothing.
 use mathlib.Core.Path.{◌≡◌, refl, sym, ◌∙◌, ap, ap₂}
 use mathlib.Core.List.{List}
-use mathlib.Core.Bool.{Bool, cond, not}
-use Prim.Native.Nat.{ℕ, suc, ◌+◌, ◌-◌, ◌≤◌, ◌<◌}
+use mathlib.Core.Bool.{Bool, cond}
+use Prim.Native.Nat.{ℕ, suc, ◌+◌, ◌-◌, ◌≤◌, ◌<◌, max}
+use mathlib.Core.Logic.{◌⊎◌, inl, inr}
+use Rattle.std.proofs.lemmas.Bool.{cases_lt}
 use native.Mathlib.Numerals.{add-one}
 use native.Mathlib.Omega.{arith}
 use lib.ListN.{get_or}
@@ -32,6 +34,15 @@ module _ (f : ℕ → ℕ) (k i : ℕ) where
   unfolding first_free
   free_end l = let e : 0 ≡ k - i = omega arith in ap (first_free f i) e
 
+-- none was found up to j, where the range ended
+module _ (f : ℕ → ℕ) (k i j m : ℕ) (b : i ≤ k → j ≤ k) (l : k ≤ j) (g : first_free f j (k - j) ≡ first_free f i (k - i)) (e : m ≡ max i k) where
+  none_by : (i < k) ⊎ (k ≤ i) → m ≡ first_free f i (k - i)
+  none_by (inl n) = let d : m ≡ j = omega (arith, b (omega arith)) in d ∙ free_end f k j l ∙ g
+  none_by (inr n) = let d : m ≡ i = omega arith in d ∙ free_end f k i n
+
+  pub free_none : m ≡ first_free f i (k - i)
+  free_none = none_by (cases_lt i k)
+
 -- ---- owners that start at a, which was computed
 
 module _ (t : List ℕ) (a b : ℕ) (e : a ≡ b) where
@@ -40,9 +51,6 @@ module _ (t : List ℕ) (a b : ℕ) (e : a ≡ b) where
 
   pub free_first : (r k : ℕ) → r ≡ first_free (λ (j : ℕ). get_or t (a + j) 0) 0 (k - 0) → r ≡ first_free (λ (j : ℕ). get_or t (b + j) 0) 0 k
   free_first r k h = let m : k - 0 ≡ k = omega arith in free_from r 0 0 k refl h ∙ ap (first_free (λ (j : ℕ). get_or t (b + j) 0) 0) m
-
-  pub owned_from : (r k : ℕ) → r ≡ count (λ (j : ℕ). not (eqb (get_or t (a + j) 0) 0)) k → r ≡ count (λ (j : ℕ). not (eqb (get_or t (b + j) 0) 0)) k
-  owned_from r k h = h ∙ ap (λ (n : ℕ). count (λ (j : ℕ). not (eqb (get_or t (n + j) 0) 0)) k) e
 
 -- one more counted
 pub count_more : (P : Ids) (i a : ℕ) (b : Bool) → a ≡ count P i → b ≡ P i → a + bool_byte b ≡ count P (i + 1)

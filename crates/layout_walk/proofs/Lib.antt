@@ -1,3 +1,3 @@
-pub mod Walks
 pub mod Free
 pub mod Passes
+pub mod Runs

@@ -89,9 +89,6 @@ module _ (h : Sizes) (t : List ℕ) where
 
   -- ---- eight at once
 
-  pub not_alike : (e n : ℕ) → false ≡ true → EightAlike h t e n
-  not_alike e n y = absurd (let z : ◌≡◌ {A = ℕ} 0 1 = cc in omega arith)
-
   pub alike : (e n : ℕ) → eight_absent t h.d e ≡ true → (b : Bool) → b ≡ eight_are t (direct_at e + 1) n → b ≡ true → EightAlike h t e n
   alike e n a b eb y =
       let l = absent_there h t e h.d refl a in
@@ -112,9 +109,6 @@ module _ (h : Sizes) (t : List ℕ) where
   -- ---- at the end
 
   module _ (e : ℕ) (en : e ≡ entries h t) (ok : Bool) (rows pages : ℕ) (rise : Bool) (prefix : ℕ) (f : SeenTo h t e ok rows pages rise prefix) where
-    pub seen_all : SeenTo h t (entries h t) ok rows pages rise prefix
-    seen_all = subst (λ (i : ℕ). SeenTo h t i ok rows pages rise prefix) en f
-
     entries_seen : (o : Bool) → o ≡ (eqb (rows_owned h t) rows && eqb (pages_owned h t) pages) → (ok && o) ≡ entries_are h t
     unfolding entries_are owners_are
     entries_seen o eo =

@@ -15,14 +15,12 @@ fn first_free(table: &[u64], a: u64, i: u64, n: u64) -> u64
     requires { (a ≤ 1048576) × (n ≤ 65536) }
     ensures { result ≡ first_free (λ (j : ℕ). get_or table.now (a + j) 0) i (n - i) }
 {
-    let mut k = i;
-    while k < n {
-        if element::at(table, a + k) == 0 {
+    for k in i..n {
+        if element::at(table, a + k, 0) == 0 {
             return k;
         }
-        k += 1;
     }
-    k
+    i.max(n)
 }
 
 // The lowest free row from the header's word on, R where there is none.
@@ -58,6 +56,7 @@ pub fn next_page(table: &[u64], h: Sizes, next: u64) -> u64
 }
 
 // The header's words are not above the lowest free row and page.
+#[tactic(auto, using(crate::proofs::Free::free_first), unfolding(layout::specs::Tests::froms_are))]
 pub fn froms_are(table: &[u64], h: Sizes) -> bool
     requires { InRange h }
     ensures { result ≡ froms_are h table.now }
@@ -68,15 +67,14 @@ pub fn froms_are(table: &[u64], h: Sizes) -> bool
 }
 
 // How many of the n owners from a on are not 0.
+#[tactic(auto, using(sums::proofs::Counts::count_zero, crate::proofs::Free::count_more))]
 fn owned_count(table: &[u64], a: u64, n: u64) -> u64
     requires { (a ≤ 1048576) × (n ≤ 65536) }
     ensures { result ≡ count (λ (i : ℕ). not (eqb (get_or table.now (a + i) 0) 0)) n }
 {
     let mut k: u64 = 0;
-    let mut i: u64 = 0;
-    while i < n {
-        k += (element::at(table, a + i) != 0) as u64;
-        i += 1;
+    for i in 0..n {
+        k += u64::from(element::at(table, a + i, 0) != 0);
     }
     k
 }

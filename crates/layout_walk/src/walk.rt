@@ -12,55 +12,53 @@ use crate::{owners, zeros};
 use document::sizes::Sizes;
 use layout::place::Place;
 use layout::{entry, head, place};
-use numbers::{element, id, order, power};
+use numbers::{element, id, power};
 
 // An owner names chunk c when it is c + 1; a chunk id of 2^64 - 1 has no owner.
 pub fn owner_is(o: u64, c: u64) -> bool
     ensures { result ≡ eqb o (c + 1) }
 {
-    (1 <= o) & (order::minus(o, 1) == c)
+    (1 <= o) & (o.saturating_sub(1) == c)
 }
 
 // Overflow entry j's id: at least D, below 2^(63-s), below the next.
+#[tactic(auto, unfolding(layout::specs::Tests::key_is))]
 pub fn key_is(table: &[u64], h: Sizes, j: u64) -> bool
     requires { InRange h × (j ≤ 65536) }
     ensures { result ≡ key_is h table.now j }
 {
-    let k = element::at(table, 16 + 2 * h.d + 3 * j);
-    let next = element::at(table, 16 + 2 * h.d + 3 * (j + 1));
+    let k = element::at(table, 16 + 2 * h.d + 3 * j, 0);
+    let next = element::at(table, 16 + 2 * h.d + 3 * (j + 1), 0);
     (h.d <= k) & (k < power::pow2(63 - h.s)) & ((head::over_count(table) <= j + 1) | (k < next))
 }
 
+#[tactic(auto, using(sums::proofs::Rules::all_none, sums::proofs::Rules::all_more))]
 pub fn keys_are(table: &[u64], h: Sizes) -> bool
     requires { InRange h × (over_count table.now ≤ 65536) }
     ensures { result ≡ all_to (key_is h table.now) (over_count table.now) }
 {
-    let n = head::over_count(table);
     let mut ok = true;
-    let mut j: u64 = 0;
-    while j < n {
-        ok = ok & key_is(table, h, j);
-        j += 1;
+    for j in 0..head::over_count(table) {
+        ok &= key_is(table, h, j);
     }
     ok
 }
 
 // The words of overflow entries in use are not 0.
+#[tactic(auto, using(sums::proofs::Rules::all_none, sums::proofs::Rules::all_more), unfolding(layout::specs::Tests::word_is))]
 pub fn words_are(table: &[u64], h: Sizes) -> bool
     requires { InRange h × (over_count table.now ≤ 65536) }
     ensures { result ≡ all_to (word_is h table.now) (over_count table.now) }
 {
-    let n = head::over_count(table);
     let mut ok = true;
-    let mut j: u64 = 0;
-    while j < n {
-        ok = ok & (entry::over_word(table, h, j) != 0);
-        j += 1;
+    for j in 0..head::over_count(table) {
+        ok &= entry::over_word(table, h, j) != 0;
     }
     ok
 }
 
 // Overflow entries: ids, words, and zeros past those in use.
+#[tactic(auto, unfolding(layout::specs::Tests::over_is, layout::specs::Tests::zeros, layout::specs::Tests::zero_at))]
 pub fn over_is(table: &[u64], h: Sizes) -> bool
     requires { InRange h × (table_size h ≤ length table.now) × (over_count table.now ≤ h.v) }
     ensures { result ≡ over_is h table.now }
@@ -68,10 +66,11 @@ pub fn over_is(table: &[u64], h: Sizes) -> bool
     let n = head::over_count(table);
     keys_are(table, h)
         & words_are(table, h)
-        & zeros::zeros64(table, head::over_at(h, n), head::over_words(h, n))
+        & zeros::all_are(table, head::over_at(h, n), head::over_words(h, n), 0)
 }
 
 // Entry e's word names a row or page inside its pool whose owner is the entry's chunk.
+#[tactic(auto, unfolding(layout::specs::Tests::place_is))]
 pub fn place_is(table: &[u64], h: Sizes, e: u64) -> bool
     requires { InRange h × (e ≤ 327680) }
     ensures { result ≡ place_is h table.now e }
@@ -80,17 +79,9 @@ pub fn place_is(table: &[u64], h: Sizes, e: u64) -> bool
     match entry::place_at(table, h, e) {
         Place::Absent => true,
         Place::Sparse(r, l) => {
-            if h.r <= r {
-                return false;
-            }
-            (1 <= l) & (l <= h.m) & owner_is(entry::row_owner(table, h, r), c)
+            r < h.r && (1 <= l) & (l <= h.m) & owner_is(entry::row_owner(table, h, r), c)
         }
-        Place::Dense(p) => {
-            if h.p <= p {
-                return false;
-            }
-            owner_is(entry::page_owner(table, h, p), c)
-        }
+        Place::Dense(p) => p < h.p && owner_is(entry::page_owner(table, h, p), c),
     }
 }
 
@@ -113,10 +104,7 @@ fn eight_alike(table: &[u64], h: Sizes, e: u64, n: u64) -> bool
     requires { InRange h × (table_size h ≤ length table.now) × (e ≤ 327680) }
     ensures { result ≡ true → EightAlike h table.now e n }
 {
-    if !entry::eight_absent(table, h.d, e) {
-        return false;
-    }
-    entry::eight_prefixes(table, e, n)
+    entry::eight_absent(table, h.d, e) && entry::eight_prefixes(table, e, n)
 }
 
 // All entries in one pass.
@@ -131,26 +119,27 @@ pub fn pass(table: &[u64], h: Sizes) -> Seen
     let mut rise = true;
     let mut prefix: u64 = 0;
     let mut e: u64 = 0;
+    // Not a `for`: a step is by eight entries or by one.
     while e < n {
         if eight_alike(table, h, e, prefix) {
             e += 8;
         } else {
             let q = entry::place_at(table, h, e);
             let next = entry::prefix_at(table, h, e);
-            ok = ok & place_is(table, h, e);
-            rows += place::has_row(q) as u64;
-            pages += place::has_page(q) as u64;
-            rise = rise & (prefix <= next);
+            ok &= place_is(table, h, e);
+            rows += u64::from(place::has_row(q));
+            pages += u64::from(place::has_page(q));
+            rise &= prefix <= next;
             prefix = next;
             e += 1;
         }
     }
     Seen {
-        ok: ok,
-        rows: rows,
-        pages: pages,
-        rise: rise,
-        prefix: prefix,
+        ok,
+        rows,
+        pages,
+        rise,
+        prefix,
     }
 }
 
@@ -163,20 +152,19 @@ pub fn ranks_rise(table: &[u64], rise: bool, prefix: u64) -> bool
 }
 
 // The sizes are allowed, the slices long enough, the mode is known and the overflow entries in use fit.
+#[tactic(auto, using(layout::proofs::Tests::range_of), unfolding(layout::specs::Tests::head_is))]
 pub fn head_is(h: Sizes, pages: &[u64], rows: &[u32], blocks: &[u32], table: &[u64]) -> bool
     ensures { result ≡ head_is h (mem pages.now rows.now blocks.now table.now) }
 {
-    if !head::in_range(h) {
-        return false;
-    }
-    head::has_room(
-        h,
-        pages.len() as u64,
-        rows.len() as u64,
-        blocks.len() as u64,
-        table.len() as u64,
-    ) & (head::mode(table) <= head::RANKED)
-        & (head::over_count(table) <= h.v)
+    head::in_range(h)
+        && head::has_room(
+            h,
+            pages.len() as u64,
+            rows.len() as u64,
+            blocks.len() as u64,
+            table.len() as u64,
+        )
+        && (head::mode(table) <= head::RANKED) & (head::over_count(table) <= h.v)
 }
 
 // The table past its sizes: unused words, overflow entries, all entries, prefixes.
@@ -185,7 +173,7 @@ pub fn table_is(table: &[u64], h: Sizes) -> bool
     ensures { result ≡ table_is h table.now }
 {
     let p = pass(table, h);
-    zeros::zeros64(table, 11, 5)
+    zeros::all_are(table, 11, 5, 0)
         & over_is(table, h)
         & (p.ok & owners::owners_are(table, h, p.rows, p.pages))
         & ranks_rise(table, p.rise, p.prefix)
@@ -193,12 +181,10 @@ pub fn table_is(table: &[u64], h: Sizes) -> bool
 }
 
 // After it nothing of the table can be found wrong.
+#[tactic(auto, using(layout::proofs::Tests::head_of), unfolding(layout::specs::Tests::walked))]
 pub fn walk(pages: &[u64], rows: &[u32], blocks: &[u32], table: &[u64]) -> bool
     ensures { result ≡ walked (mem pages.now rows.now blocks.now table.now) }
 {
     let h = head::read(table);
-    if !head_is(h, pages, rows, blocks, table) {
-        return false;
-    }
-    table_is(table, h)
+    head_is(h, pages, rows, blocks, table) && table_is(table, h)
 }

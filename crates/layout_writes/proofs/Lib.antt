@@ -1,4 +1,3 @@
 pub mod Fills
 pub mod SetUps
 pub mod Gaps
-pub mod Froms

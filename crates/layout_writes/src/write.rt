@@ -6,9 +6,9 @@ ghost use Rattle.layout.specs.Writes.{added, over_put, put_word, put_prefix, fro
 
 use document::sizes::Sizes;
 use layout::{find, head};
-use numbers::{element, order};
+use numbers::element;
 
-// A new overflow entry at its place: those from k on move up by one entry, from the top.
+// A new overflow entry at its place: those from k on move up by one entry.
 pub fn add_entry(table: &mut [u64], h: Sizes, c: u64, w: u64, k: u64)
     requires { (h.d ≤ 262144) × (over_count table.old ≤ 65536) × (k ≤ over_count table.old)
         × (over_at h (over_count table.old + 1) ≤ length table.old) }
@@ -16,11 +16,8 @@ pub fn add_entry(table: &mut [u64], h: Sizes, c: u64, w: u64, k: u64)
 {
     let n = table[7];
     let a = (16 + 2 * h.d + 3 * k) as usize;
-    let mut i = (16 + 2 * h.d + 3 * n) as usize;
-    while a < i {
-        table[i + 2] = table[i - 1];
-        i -= 1;
-    }
+    let e = (16 + 2 * h.d + 3 * n) as usize;
+    table.copy_within(a..e, a + 3);
     table[a] = c;
     table[a + 1] = w;
     table[a + 2] = 0;
@@ -34,17 +31,15 @@ pub fn put_over(table: &mut [u64], h: Sizes, c: u64, w: u64, k: u64)
 {
     let n = head::over_count(table);
     let a = 16 + 2 * h.d + 3 * k;
-    if (k < n) & (element::at(table, a) == c) {
+    if (k < n) & (element::at(table, a, 0) == c) {
         element::put(table, a + 1, w);
-        return;
+    } else if 16 + 2 * h.d + 3 * (n + 1) <= table.len() as u64 {
+        add_entry(table, h, c, w, k);
     }
-    if (table.len() as u64) < 16 + 2 * h.d + 3 * (n + 1) {
-        return;
-    }
-    add_entry(table, h, c, w, k);
 }
 
 // Chunk c's word: in its direct entry, in its overflow entry, or in a new one.
+#[tactic(auto, unfolding(layout::specs::Writes::put_word))]
 pub fn put_word(table: &mut [u64], h: Sizes, c: u64, w: u64)
     requires { (h.d ≤ 262144) × (h.d ≤ c → over_count table.old ≤ 65536) }
     ensures { table.new ≡ put_word h table.old c w }
@@ -58,6 +53,7 @@ pub fn put_word(table: &mut [u64], h: Sizes, c: u64, w: u64)
 }
 
 // The same by the table's own header, of which a direct entry needs word 2 alone.
+#[tactic(auto, unfolding(layout::specs::Writes::put_word))]
 pub fn set_word(table: &mut [u64], c: u64, w: u64)
     requires { (c < 2 ^ 62) × (get_or table.old 2 0 ≤ c → (get_or table.old 2 0 ≤ 262144) × (over_count table.old ≤ 65536)) }
     ensures { table.new ≡ put_word (header_at table.old) table.old c w }
@@ -88,17 +84,18 @@ fn from_after(from: u64, i: u64, old: u64, w: u64) -> u64
     ensures { result ≡ from_after from i old w }
 {
     if w == 0 {
-        return order::least_of(from, i);
+        return from.min(i);
     }
     if old == 0 { i + 1 } else { from }
 }
 
 // The owner of slot i, the owners starting at a, and header word k.
+#[tactic(auto, unfolding(layout::specs::Writes::put_owner))]
 fn put_owner(table: &mut [u64], k: u64, a: u64, i: u64, w: u64)
     requires { (a ≤ 1048576) × (i ≤ 65536) }
     ensures { table.new ≡ put_owner k a table.old i w }
 {
-    let from = from_after(element::at(table, k), i, element::at(table, a + i), w);
+    let from = from_after(element::at(table, k, 0), i, element::at(table, a + i, 0), w);
     element::put(table, a + i, w);
     element::put(table, k, from);
 }

@@ -1,4 +1,3 @@
 pub mod Lines
-pub mod Magnitudes
 pub mod Splits
 pub mod Ways

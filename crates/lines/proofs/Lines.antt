@@ -8,12 +8,11 @@ use lib.Dec.{leb, ltb, eqb}
 use lib.ListN.{length}
 use Rattle.sums.proofs.Rules.{both}
 use borrow.Author.Tests.{leb-true, ltb-true, eqb-true, le-leb, lt-ltb}
+use Rattle.std.specs.Prelude.{Some, None}
 use Rattle.lines.specs.Line.{is_digit, all_digits, value_from, size_line, positive, negative, id_line}
 use Rattle.lines.specs.Reader.{digit_on, next, read_from, line_of, empty_in, size_in, within, signed_by, id_in}
-use Rattle.lines.specs.declared.Id.TheVariants as id
 use Rattle.lines.specs.declared.Line.{Line}
 use Rattle.lines.specs.declared.Line.TheVariants.{Empty, Digits, Bad}
-use Rattle.lines.specs.declared.Number.TheVariants as number
 
 -- ---- by what is kept
 
@@ -105,11 +104,11 @@ module _ {A : Type 0} (f : Line → A) (g : List ℕ → A) (b : ℕ) (bs : List
 
 -- ---- S
 
-size_minus : (t : Bool) (k w : ℕ) → size_in (cond t (Digits true k w) Bad) ≡ number.Bad
+size_minus : (t : Bool) (k w : ℕ) → size_in (cond t (Digits true k w) Bad) ≡ None
 size_minus true k w = refl
 size_minus false k w = refl
 
-size_plain : (t : Bool) (k w : ℕ) → size_in (cond t (Digits false k w) Bad) ≡ cond t (number.Of w) number.Bad
+size_plain : (t : Bool) (k w : ℕ) → size_in (cond t (Digits false k w) Bad) ≡ cond t (Some w) None
 size_plain true k w = refl
 size_plain false k w = refl
 
@@ -131,7 +130,7 @@ size_digits bs h =
     size_plain (all_digits bs && (leb (0 + length bs) 20 && ltb (value_from 0 bs) (2 ^ 64))) (0 + length bs) (value_from 0 bs)
     ∙ rw (z, h)
 
-size_none : number.Bad ≡ size_line []
+size_none : None ≡ size_line []
 unfolding size_line all_digits value_from
 size_none = refl
 
@@ -141,22 +140,18 @@ unfolding line_of read_from next
 size_says [] = size_none
 size_says (b ∷ bs) = by_first size_in size_line b bs _ refl (size_after_minus b bs) (λ h. size_digits (b ∷ bs) (le-leb 1 (suc (length bs)) (omega arith)))
 
--- the sign is known
-pub signs : {l : Line} {m s : Bool} {n v : ℕ} → l ≡ Digits m n v → m ≡ s → l ≡ Digits s n v
-signs {n = n} {v = v} p t = p ∙ ap (λ (x : Bool). Digits x n v) t
-
 -- ---- an id
 
-id_under : (m : Bool) (k w : ℕ) (p q : Bool) → (q ≡ true → p ≡ true) → (leb 1 k && (leb k 19 && within m w)) ≡ q → id_in (cond p (Digits m k w) Bad) ≡ cond q (id.Of (signed_by m w)) id.Bad
-id_under m k w true q h e = ap (λ (t : Bool). cond t (id.Of (signed_by m w)) id.Bad) e
-id_under m k w false true h e = absurd (let z : false ≡ true = h refl in let y : ◌≡◌ {A = ℕ} 0 1 = cc in omega arith)
+id_under : (m : Bool) (k w : ℕ) (p q : Bool) → (q ≡ true → p ≡ true) → (leb 1 k && (leb k 19 && within m w)) ≡ q → id_in (cond p (Digits m k w) Bad) ≡ cond q (Some (signed_by m w)) None
+id_under m k w true q h e = ap (λ (t : Bool). cond t (Some (signed_by m w)) None) e
+id_under m k w false true h e = absurd (let z : false ≡ true = h refl in cc)
 id_under m k w false false h e = refl
 
 within_low : (m : Bool) (w : ℕ) → within m w ≡ true → w < 2 ^ 64
 within_low true w h = omega (arith, leb-true w (2 ^ 63) h)
 within_low false w h = omega (arith, ltb-true w (2 ^ 63) h)
 
-id_ended : (m a : Bool) (k w : ℕ) → id_in (ended_by m a k w) ≡ cond (a && (leb 1 k && (leb k 19 && within m w))) (id.Of (signed_by m w)) id.Bad
+id_ended : (m a : Bool) (k w : ℕ) → id_in (ended_by m a k w) ≡ cond (a && (leb 1 k && (leb k 19 && within m w))) (Some (signed_by m w)) None
 id_ended m false k w = refl
 id_ended m true k w = id_under m k w _ _ holds refl
   where

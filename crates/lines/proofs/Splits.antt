@@ -1,137 +1,118 @@
--- Laws of words: what one byte of a line does to its words, and a word as a part of its line. Assumes nothing.
+-- Laws of words: the words of a line are the parts that std's `split` gives at its spaces. Assumes nothing.
 use mathlib.Core.Path.{◌≡◌, refl, sym, ◌∙◌, ap}
 use mathlib.Core.Bool.{Bool, true, false, cond}
 use mathlib.Core.List.{List, [], ◌∷◌}
-use Prim.Native.Nat.{ℕ, zero, suc, ◌+◌, ◌-◌, ◌≤◌, ◌<◌}
-use native.Mathlib.Numerals.{add-one}
+use Prim.Native.Nat.{ℕ, zero, suc, ◌+◌, ◌≤◌, ◌<◌}
 use native.Mathlib.Omega.{arith}
 use lib.Dec.{eqb}
-use lib.ListN.{length, take, drop, get_or, drop_of_length-le}
-use lib.Seq.{drop-cons, drop-drop, take-suc, take_all}
-use borrow.Author.Tests.{eq-eqb, ne_eqb}
+use lib.ListN.{length, get_or}
+use denote.Ref.{Bor}
+use Rattle.std.specs.Prelude.{Option, Some, None, option_map, unwrap_or}
+use Rattle.std.proofs.lemmas.Option.{unwrap_or-slice_get}
+use Rattle.std.specs.List.{slice_get, slice_split, onto_first, count_by, fold, AllWithin, HoldsAt}
+use Rattle.std.proofs.lemmas.List.Splits.{length-slice_split}
 use Rattle.lines.specs.Reader.{next, read_from, line_of}
 use Rattle.lines.specs.declared.Line.{Line}
 use Rattle.lines.specs.declared.Line.TheVariants.{Empty}
-use Rattle.lines.specs.Words.{first_word, after_first, from_word, word_at, word_count}
-use Rattle.lines.proofs.Lines.{line_snoc}
+use Rattle.lines.specs.Words.{first_word, after_first, from_word, word_at, word_count, Names}
 
--- ---- one byte
+abbrev pub is_space : ℕ → Bool
+is_space b = eqb b 32
 
-module _ (s : List ℕ) (i : ℕ) (h : i < length s) where
-  cons : drop i s ≡ get_or s i 0 ∷ drop (i + 1) s
-  cons = rw (add-one, drop-cons s i 0)
+abbrev pub parts : List ℕ → List (List ℕ)
+parts bs = slice_split is_space bs
 
-  pub count_space : get_or s i 0 ≡ 32 → word_count (drop i s) ≡ 1 + word_count (drop (i + 1) s)
-  unfolding word_count
-  count_space e = ap word_count cons ∙ ap (λ (t : Bool). cond t (1 + word_count (drop (i + 1) s)) (word_count (drop (i + 1) s))) (eq-eqb (get_or s i 0) 32 e)
+-- ---- the first part, and those behind it
 
-  pub count_other : (get_or s i 0 ≡ 32 → ⊥) → word_count (drop i s) ≡ word_count (drop (i + 1) s)
-  unfolding word_count
-  count_other e = ap word_count cons ∙ ap (λ (t : Bool). cond t (1 + word_count (drop (i + 1) s)) (word_count (drop (i + 1) s))) (ne_eqb (get_or s i 0) 32 e)
+first_of : (t : Bool) (b : ℕ) (bs : List ℕ) (ps : List (List ℕ)) → first_word bs ≡ get_or ps 0 [] → cond t [] (b ∷ first_word bs) ≡ get_or (cond t ([] ∷ ps) (onto_first b ps)) 0 []
+first_of true b bs ps e = refl
+first_of false b bs [] e = ap (λ (w : List ℕ). b ∷ w) e
+first_of false b bs (p ∷ ps) e = ap (λ (w : List ℕ). b ∷ w) e
 
-  pub first_space : get_or s i 0 ≡ 32 → first_word (drop i s) ≡ []
-  unfolding first_word
-  first_space e = ap first_word cons ∙ ap (λ (t : Bool). cond t [] (get_or s i 0 ∷ first_word (drop (i + 1) s))) (eq-eqb (get_or s i 0) 32 e)
-
-  pub first_other : (get_or s i 0 ≡ 32 → ⊥) → first_word (drop i s) ≡ get_or s i 0 ∷ first_word (drop (i + 1) s)
-  unfolding first_word
-  first_other e = ap first_word cons ∙ ap (λ (t : Bool). cond t [] (get_or s i 0 ∷ first_word (drop (i + 1) s))) (ne_eqb (get_or s i 0) 32 e)
-
-  -- where a word ends
-  pub end_space : get_or s i 0 ≡ 32 → i + length (first_word (drop i s)) ≡ i
-  end_space e =
-      let z : length (first_word (drop i s)) ≡ 0 = ap length (first_space e) in
-      omega arith
-
-  pub end_other : (get_or s i 0 ≡ 32 → ⊥) → i + length (first_word (drop i s)) ≡ (i + 1) + length (first_word (drop (i + 1) s))
-  end_other e =
-      let z : length (first_word (drop i s)) ≡ suc (length (first_word (drop (i + 1) s))) = ap length (first_other e) in
-      omega arith
-
--- ---- no byte more
-
-module _ (s : List ℕ) (i : ℕ) (h : length s ≤ i) where
-  none : drop i s ≡ []
-  none = drop_of_length-le s h
-
-  pub end_last : i + length (first_word (drop i s)) ≡ i
-  unfolding first_word
-  end_last =
-      let z : length (first_word (drop i s)) ≡ 0 = ap (λ (t : List ℕ). length (first_word t)) none in
-      omega arith
-
-  pub count_last : word_count (drop i s) ≡ 1
-  unfolding word_count
-  count_last = ap word_count none
-
-  pub past_last : drop i s ≡ drop (i + 1) s
-  past_last =
-      let k : length s ≤ i + 1 = omega arith in
-      none ∙ sym (drop_of_length-le s k)
-
--- ---- words as parts of their line
-
-take_by : (b : ℕ) (bs : List ℕ) (t : Bool) → take (length (first_word bs)) bs ≡ first_word bs → take (length (cond t [] (b ∷ first_word bs))) (b ∷ bs) ≡ cond t [] (b ∷ first_word bs)
-take_by b bs true e = refl
-take_by b bs false e = ap (λ (r : List ℕ). b ∷ r) e
-
-take_first : (bs : List ℕ) → take (length (first_word bs)) bs ≡ first_word bs
+first_law : (bs : List ℕ) → first_word bs ≡ get_or (parts bs) 0 []
 unfolding first_word
-take_first [] = refl
-take_first (b ∷ bs) = take_by b bs (eqb b 32) (take_first bs)
+first_law [] = refl
+first_law (b ∷ bs) = first_of (eqb b 32) b bs (parts bs) (first_law bs)
 
-after_by : (b : ℕ) (bs : List ℕ) (t : Bool) → drop (length (first_word bs) + 1) bs ≡ after_first bs → drop (length (cond t [] (b ∷ first_word bs)) + 1) (b ∷ bs) ≡ cond t bs (after_first bs)
-after_by b bs true e = refl
-after_by b bs false e =
-    let k : suc (length (first_word bs)) + 1 ≡ suc (length (first_word bs) + 1) = omega arith in
-    ap (λ (n : ℕ). drop n (b ∷ bs)) k ∙ e
+after_of : (t : Bool) (b j : ℕ) (bs : List ℕ) (ps : List (List ℕ)) → ps ≡ parts bs → get_or ps (suc j) [] ≡ get_or (parts (after_first bs)) j [] → get_or (cond t ([] ∷ ps) (onto_first b ps)) (suc j) [] ≡ get_or (parts (cond t bs (after_first bs))) j []
+after_of true b j bs ps e h = ap (λ (q : List (List ℕ)). get_or q j []) e
+after_of false b j bs [] e h = h
+after_of false b j bs (p ∷ ps) e h = h
 
-after_first_law : (bs : List ℕ) → drop (length (first_word bs) + 1) bs ≡ after_first bs
-unfolding first_word after_first
-after_first_law [] = refl
-after_first_law (b ∷ bs) = after_by b bs (eqb b 32) (after_first_law bs)
+after_law : (bs : List ℕ) (j : ℕ) → get_or (parts bs) (suc j) [] ≡ get_or (parts (after_first bs)) j []
+unfolding after_first
+after_law [] zero = refl
+after_law [] (suc j) = refl
+after_law (b ∷ bs) j = after_of (eqb b 32) b j bs (parts bs) refl (after_law bs j)
 
-pub part_word : (j : ℕ) (s : List ℕ) (a e : ℕ) → drop a s ≡ from_word j s → e ≡ a + length (first_word (drop a s)) → take (e - a) (drop a s) ≡ word_at j s
-unfolding word_at
-part_word j s a e p q =
-    let k : e - a ≡ length (first_word (drop a s)) = omega arith in
-    ap (λ (n : ℕ). take n (drop a s)) k ∙ take_first (drop a s) ∙ ap first_word p
+-- word j is part j
+pub word_law : (j : ℕ) (bs : List ℕ) → get_or (parts bs) j [] ≡ word_at j bs
+unfolding word_at from_word
+word_law zero bs = sym (first_law bs)
+word_law (suc j) bs = after_law bs j ∙ word_law j (after_first bs)
 
--- ---- from one word to the next
+parts_law : (bs : List ℕ) → length (parts bs) ≡ word_count bs
+unfolding word_count
+parts_law [] = refl
+parts_law (b ∷ bs) = count_of (eqb b 32) b (parts bs) (word_count bs) (some_part bs) (parts_law bs)
+  where
+    some_part : (bs : List ℕ) → 0 < length (parts bs)
+    some_part bs = omega (arith, length-slice_split is_space bs)
 
-from_next : (left : ℕ) (bs : List ℕ) → 0 < left → from_word left bs ≡ from_word (left - 1) (after_first bs)
-unfolding from_word
-from_next zero bs h = absurd (omega arith)
-from_next (suc k) bs h =
-    let e : k ≡ suc k - 1 = omega arith in
-    ap (λ (n : ℕ). from_word n (after_first bs)) e
+    count_of : (t : Bool) (b : ℕ) (ps : List (List ℕ)) (n : ℕ) → 0 < length ps → length ps ≡ n → length (cond t ([] ∷ ps) (onto_first b ps)) ≡ cond t (1 + n) n
+    count_of true b ps n h e = omega arith
+    count_of false b [] n h e = absurd (omega arith)
+    count_of false b (p ∷ ps) n h e = e
 
-pub from_step : (s : List ℕ) (at e r left : ℕ) → 0 < left → e ≡ at + length (first_word (drop at s)) → drop r s ≡ drop (e + 1) s → from_word (left - 1) (drop r s) ≡ from_word left (drop at s)
-from_step s at e r left h p q =
-    let k : e + 1 ≡ at + (length (first_word (drop at s)) + 1) = omega arith in
-    let d : drop r s ≡ after_first (drop at s) = q ∙ ap (λ (n : ℕ). drop n s) k ∙ sym (drop-drop (length (first_word (drop at s)) + 1) at s) ∙ after_first_law (drop at s) in
-    ap (from_word (left - 1)) d ∙ sym (from_next left (drop at s) h)
+pub count_law : (bs : List ℕ) → word_count bs ≡ 1 + count_by is_space bs
+count_law bs = omega (arith, parts_law bs, length-slice_split is_space bs)
 
-pub from_none : (left : ℕ) (bs : List ℕ) → left ≤ 0 → bs ≡ from_word left bs
-unfolding from_word
-from_none zero bs h = refl
-from_none (suc k) bs h = absurd (omega arith)
+-- what `nth` gives of the parts, or nothing
+pub nth_law : (j : ℕ) (bs : List ℕ) (r : Option (Bor (List ℕ))) (d w : Bor (List ℕ)) → option_map (λ (p : Bor (List ℕ)). p.now) r ≡ slice_get (parts bs) j → w ≡ unwrap_or r d → d.now ≡ [] → w.now ≡ word_at j bs
+nth_law j bs r d w e f g = now_of r f ∙ ap (λ (o : Option (List ℕ)). unwrap_or o []) e ∙ unwrap_or-slice_get (parts bs) j [] ∙ word_law j bs
+  where
+    now_of : (r : Option (Bor (List ℕ))) → w ≡ unwrap_or r d → w.now ≡ unwrap_or (option_map (λ (p : Bor (List ℕ)). p.now) r) []
+    now_of (Some p) f = ap (λ (q : Bor (List ℕ)). q.now) f
+    now_of None f = ap (λ (q : Bor (List ℕ)). q.now) f ∙ g
+
+-- ---- which of the names a word is
+
+module _ (it names : List ℕ) where
+  abbrev pub Yes : List ℕ → Type 0
+  Yes w = w ≡ it
+
+  abbrev pub No : List ℕ → Type 0
+  No w = w ≡ it → ⊥
+
+  none_before : (n r : ℕ) → AllWithin No (parts names) 0 n → r ≤ n → (k : ℕ) → k < r → word_at k names ≡ it → ⊥
+  none_before n r h l k m e = h k [] (omega arith) (omega arith) (word_law k names ∙ e)
+
+  pub names_some : (i : ℕ) → (i < length (parts names)) × HoldsAt Yes (parts names) i × AllWithin No (parts names) 0 i → Names it names i
+  names_some i h =
+      record {
+        found = λ l. sym (word_law i names) ∙ h.1 [];
+        none_before = none_before i i h.2 (omega arith);
+        at_most = omega (arith, h.0, parts_law names);
+      }
+
+  pub names_none : (r : ℕ) → r ≡ word_count names → AllWithin No (parts names) 0 (length (parts names)) → Names it names r
+  names_none r e h =
+      record {
+        found = λ l. absurd (omega arith);
+        none_before = none_before (length (parts names)) r h (omega (arith, parts_law names));
+        at_most = omega arith;
+      }
 
 -- ---- a word byte by byte
 
-pub kept_more : (s : List ℕ) (i : ℕ) (l r : Line) → i < length s → l ≡ line_of (take i s) → r ≡ next l (get_or s i 0) → r ≡ line_of (take (i + 1) s)
-kept_more s i l r h p e =
-    e
-    ∙ ap (λ (x : Line). next x (get_or s i 0)) p
-    ∙ sym (line_snoc (take i s) (get_or s i 0))
-    ∙ ap line_of (sym (take-suc s i 0 h) ∙ ap (λ (n : ℕ). take n s) (sym (add-one i)))
+kept_from : (l : Line) (bs : List ℕ) → fold next l bs ≡ read_from l bs
+unfolding read_from
+kept_from l [] = refl
+kept_from l (b ∷ bs) = kept_from (next l b) bs
 
-pub kept_none : (s : List ℕ) (r : Line) → r ≡ Empty → r ≡ line_of (take 0 s)
-unfolding line_of read_from
-kept_none s r e = e
-
-pub kept_all : (s : List ℕ) (i : ℕ) (r : Line) → length s ≤ i → r ≡ line_of (take i s) → r ≡ line_of s
-kept_all s i r h e = e ∙ ap line_of (take_all i s h)
+pub kept_law : (bs : List ℕ) → fold next Empty bs ≡ line_of bs
+unfolding line_of
+kept_law bs = kept_from Empty bs
 
 -- ---- numbers and ids
 

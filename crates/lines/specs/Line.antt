@@ -1,9 +1,5 @@
 -- What a line of the program's input says, from its bytes alone: S on the first line, an id on every other.
-use Rattle.std.specs.Prelude.{Bool, true, cond, ◌&&◌, List, [], ◌∷◌, ℕ, ◌+◌, ◌-◌, ◌*◌, ◌^◌, leb, ltb, eqb, pos, neg_ℤ, length}
-use Rattle.lines.specs.declared.Id.{Id}
-use Rattle.lines.specs.declared.Id.TheVariants as id
-use Rattle.lines.specs.declared.Number.{Number}
-use Rattle.lines.specs.declared.Number.TheVariants as number
+use Rattle.std.specs.Prelude.{Bool, true, cond, ◌&&◌, List, [], ◌∷◌, ℕ, ◌+◌, ◌-◌, ◌*◌, ◌^◌, leb, ltb, eqb, ℤ, pos, neg_ℤ, length, Option, Some, None}
 
 -- ---- digits and their number
 
@@ -25,27 +21,27 @@ value bs = value_from 0 bs
 -- ---- the two kinds of line
 
 -- S: 1 to 20 digits, below 2 ^ 64
-unfoldable pub size_line : List ℕ → Number
+unfoldable pub size_line : List ℕ → Option ℕ
 size_line bs =
     cond (all_digits bs && (leb 1 (length bs) && (leb (length bs) 20 && ltb (value bs) (2 ^ 64))))
-    (number.Of (value bs))
-    number.Bad
+    (Some (value bs))
+    None
 
 -- 1 to 19 digits, below 2 ^ 63
-unfoldable pub positive : List ℕ → Id
+unfoldable pub positive : List ℕ → Option ℤ
 positive bs =
     cond (all_digits bs && (leb 1 (length bs) && (leb (length bs) 19 && ltb (value bs) (2 ^ 63))))
-    (id.Of (pos (value bs)))
-    id.Bad
+    (Some (pos (value bs)))
+    None
 
 -- 1 to 19 digits after a minus, at most 2 ^ 63; -0 is 0
-unfoldable pub negative : List ℕ → Id
+unfoldable pub negative : List ℕ → Option ℤ
 negative bs =
     cond (all_digits bs && (leb 1 (length bs) && (leb (length bs) 19 && leb (value bs) (2 ^ 63))))
-    (id.Of (neg_ℤ (pos (value bs))))
-    id.Bad
+    (Some (neg_ℤ (pos (value bs))))
+    None
 
 -- an id: an optional minus, then its digits
-unfoldable pub id_line : List ℕ → Id
-id_line [] = id.Bad
+unfoldable pub id_line : List ℕ → Option ℤ
+id_line [] = None
 id_line (b ∷ bs) = cond (eqb b 45) (negative bs) (positive (b ∷ bs))

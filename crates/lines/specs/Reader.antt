@@ -1,12 +1,8 @@
 -- What the reader keeps of a line, a function of the bytes so far, and what is read off it at the end.
-use Rattle.std.specs.Prelude.{Bool, true, false, cond, ◌&&◌, List, [], ◌∷◌, ℕ, ◌+◌, ◌-◌, ◌*◌, ◌^◌, leb, ltb, eqb, ℤ, pos, neg_ℤ}
+use Rattle.std.specs.Prelude.{Bool, true, false, cond, ◌&&◌, List, [], ◌∷◌, ℕ, ◌+◌, ◌-◌, ◌*◌, ◌^◌, leb, ltb, eqb, ℤ, pos, neg_ℤ, Option, Some, None}
 use Rattle.lines.specs.Line.{is_digit}
-use Rattle.lines.specs.declared.Id.{Id}
-use Rattle.lines.specs.declared.Id.TheVariants as id
 use Rattle.lines.specs.declared.Line.{Line}
 use Rattle.lines.specs.declared.Line.TheVariants.{Empty, Digits, Bad}
-use Rattle.lines.specs.declared.Number.{Number}
-use Rattle.lines.specs.declared.Number.TheVariants as number
 
 -- one more digit, while there are at most 20 and their number is below 2 ^ 64
 unfoldable pub digit_on : Bool → ℕ → ℕ → ℕ → Line
@@ -38,11 +34,11 @@ empty_in (Digits m n v) = false
 empty_in Bad = false
 
 -- as S: no minus
-abbrev pub size_in : Line → Number
-size_in Empty = number.Bad
-size_in (Digits true n v) = number.Bad
-size_in (Digits false n v) = number.Of v
-size_in Bad = number.Bad
+abbrev pub size_in : Line → Option ℕ
+size_in Empty = None
+size_in (Digits true n v) = None
+size_in (Digits false n v) = Some v
+size_in Bad = None
 
 -- an i64 goes to 2 ^ 63 below 0, and not as far above it
 abbrev pub within : Bool → ℕ → Bool
@@ -54,7 +50,7 @@ signed_by true v = neg_ℤ (pos v)
 signed_by false v = pos v
 
 -- as an id: 1 to 19 digits
-abbrev pub id_in : Line → Id
-id_in Empty = id.Bad
-id_in (Digits m n v) = cond (leb 1 n && (leb n 19 && within m v)) (id.Of (signed_by m v)) id.Bad
-id_in Bad = id.Bad
+abbrev pub id_in : Line → Option ℤ
+id_in Empty = None
+id_in (Digits m n v) = cond (leb 1 n && (leb n 19 && within m v)) (Some (signed_by m v)) None
+id_in Bad = None

@@ -1,11 +1,5 @@
 -- The words of a line, separated by single spaces; an empty line has one word, which is empty.
-use Rattle.std.specs.Prelude.{Bool, true, false, cond, List, [], ◌∷◌, ◌≡◌, ℕ, zero, suc, ◌+◌, ◌≤◌, ◌<◌, eqb, ℤ}
-use Rattle.lines.specs.declared.Id.{Id}
-use Rattle.lines.specs.declared.Id.TheVariants as id
-use Rattle.lines.specs.declared.Number.{Number}
-use Rattle.lines.specs.declared.Number.TheVariants as number
-
--- ---- words
+use Rattle.std.specs.Prelude.{cond, List, [], ◌∷◌, ◌≡◌, ℕ, zero, suc, ◌+◌, ◌≤◌, ◌<◌, eqb}
 
 -- the bytes before the first space
 unfoldable pub first_word : List ℕ → List ℕ
@@ -36,23 +30,3 @@ pub record Names (word names : List ℕ) (r : ℕ) : Type 0 where
   pub found : r < word_count names → word_at r names ≡ word
   pub none_before : (k : ℕ) → k < r → word_at k names ≡ word → ⊥
   pub at_most : r ≤ word_count names
-
--- ---- numbers and ids
-
-abbrev pub is_number : Number → Bool
-is_number (number.Of n) = true
-is_number number.Bad = false
-
--- d for what is no number
-abbrev pub number_or : ℕ → Number → ℕ
-number_or d (number.Of n) = n
-number_or d number.Bad = d
-
-abbrev pub is_id : Id → Bool
-is_id (id.Of z) = true
-is_id id.Bad = false
-
--- d for what is no id
-abbrev pub id_or : ℤ → Id → ℤ
-id_or d (id.Of z) = z
-id_or d id.Bad = d

@@ -10,45 +10,35 @@ use lib.ListN.{length, get_or, set, take}
 use lib.Seq.{take-nil}
 use Rattle.lists.specs.Lists.{answered}
 
--- there is an id i, and a place for its answer
-pub record There (zs : List ℤ) (ns : List ℕ) (i : ℕ) : Type 0 where
-  pub id : i < length zs
-  pub answer : i < length ns
-
-module _ (f : ℤ → ℕ) where
-  pub answered_length : (zs : List ℤ) (ns : List ℕ) → length (answered f zs ns) ≡ length ns
-  unfolding answered
-  answered_length [] ns = refl
-  answered_length (z ∷ zs) [] = refl
-  answered_length (z ∷ zs) (n ∷ ns) = ap suc (answered_length zs ns)
-
-  pub answered_none : (zs : List ℤ) (ns : List ℕ) → answered f (take 0 zs) ns ≡ ns
+module _ {A : Type 0} (f : ℤ → A) where
+  pub answered_none : (zs : List ℤ) (ns : List A) → answered f (take 0 zs) ns ≡ ns
   unfolding answered
   answered_none zs ns = refl
 
-  steps : (i : ℕ) (zs : List ℤ) (ns : List ℕ) → i < length zs → i < length ns → set (answered f (take i zs) ns) i (f (get_or zs i (pos 0))) ≡ answered f (take (suc i) zs) ns
+  steps : (i : ℕ) (zs : List ℤ) (ns : List A) → i < length zs → i < length ns → set (answered f (take i zs) ns) i (f (get_or zs i (pos 0))) ≡ answered f (take (suc i) zs) ns
   unfolding answered
   steps i [] ns a b = absurd (not-suc-le-zero a)
   steps i (z ∷ zs) [] a b = absurd (not-suc-le-zero b)
   steps zero (z ∷ zs) (n ∷ ns) a b = refl
-  steps (suc i) (z ∷ zs) (n ∷ ns) a b = ap (λ (r : List ℕ). f z ∷ r) (steps i zs ns (le_of_suc-le-suc a) (le_of_suc-le-suc b))
+  steps (suc i) (z ∷ zs) (n ∷ ns) a b = ap (λ (r : List A). f z ∷ r) (steps i zs ns (le_of_suc-le-suc a) (le_of_suc-le-suc b))
 
   -- one more of them
-  pub answered_turn : (i : ℕ) (zs : List ℤ) (ns l : List ℕ) (k : ℕ) → l ≡ answered f (take i zs) ns → There zs ns i → k ≡ f (get_or zs i (pos 0)) → set l i k ≡ answered f (take (i + 1) zs) ns
-  answered_turn i zs ns l k e t q =
-      ap₂ (λ (r : List ℕ) (v : ℕ). set r i v) e q ∙ steps i zs ns t.id t.answer ∙ ap (λ (j : ℕ). answered f (take j zs) ns) (sym (add-one i))
+  pub answered_turn : (i : ℕ) (zs : List ℤ) (ns l : List A) (k : A) → l ≡ answered f (take i zs) ns → i < length zs → i < length ns → k ≡ f (get_or zs i (pos 0)) → set l i k ≡ answered f (take (i + 1) zs) ns
+  answered_turn i zs ns l k e t u q =
+      ap₂ (λ (r : List A) (v : A). set r i v) e q ∙ steps i zs ns t u ∙ ap (λ (j : ℕ). answered f (take j zs) ns) (sym (add-one i))
 
   -- past the shorter list there is none
-  pub answered_all : (n : ℕ) (zs : List ℤ) (ns : List ℕ) → min (length zs) (length ns) ≤ n → answered f (take n zs) ns ≡ answered f zs ns
+  pub answered_all : (n : ℕ) (zs : List ℤ) (ns : List A) → min (length zs) (length ns) ≤ n → answered f (take n zs) ns ≡ answered f zs ns
   unfolding answered
   answered_all n [] ns h = ap (λ (l : List ℤ). answered f l ns) (take-nil n)
   answered_all zero (z ∷ zs) [] h = refl
   answered_all (suc n) (z ∷ zs) [] h = refl
   answered_all zero (z ∷ zs) (k ∷ ns) h = absurd (omega arith)
-  answered_all (suc n) (z ∷ zs) (k ∷ ns) h = ap (λ (r : List ℕ). f z ∷ r) (answered_all n zs ns (omega arith))
+  answered_all (suc n) (z ∷ zs) (k ∷ ns) h = ap (λ (r : List A). f z ∷ r) (answered_all n zs ns (omega arith))
 
-  -- ---- each of them
+-- ---- each of them
 
+module _ (f : ℤ → ℕ) where
   pub answered_at : (i : ℕ) (zs : List ℤ) (ns : List ℕ) → i < length zs → i < length ns → get_or (answered f zs ns) i 0 ≡ f (get_or zs i (pos 0))
   unfolding answered
   answered_at i [] ns a b = absurd (not-suc-le-zero a)
@@ -63,7 +53,3 @@ module _ (f : ℤ → ℕ) where
   answered_past i (z ∷ zs) [] a = refl
   answered_past zero (z ∷ zs) (n ∷ ns) a = absurd (not-suc-le-zero a)
   answered_past (suc i) (z ∷ zs) (n ∷ ns) a = answered_past i zs ns (le_of_suc-le-suc a)
-
--- below the shorter length there is one
-pub both_there : (zs : List ℤ) (ns : List ℕ) (n i : ℕ) → n ≡ min (length zs) (length ns) → i < n → There zs ns i
-both_there zs ns n i e l = record { id = omega arith; answer = omega arith }

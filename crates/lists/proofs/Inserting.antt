@@ -10,8 +10,6 @@ use mir.Val.{bool_byte, SFits, of_z, to_z}
 use mir.Facts.{to_z-of_z}
 use Rattle.document.specs.Calls.{insert, whether}
 use Rattle.document.specs.Insert.{new_answer}
-use Rattle.document.specs.declared.answer.Truth.{Truth}
-use Rattle.document.specs.declared.answer.Truth.TheVariants.{Is, Refused}
 use Rattle.layout.specs.Mem.{Mem}
 use Rattle.layout.specs.Meaning.{state_of}
 use Rattle.layout.specs.Follows.{Follows}
@@ -20,6 +18,10 @@ use Rattle.contracts.specs.Runs.{Ran}
 use Rattle.contracts.specs.Does.{Does}
 use Rattle.lists.specs.Inserts.{inserted_of, answer_by, after_by, after_of, InsertsAll}
 use Rattle.lists.proofs.Turns.{Turned, turned_none, turned_next, turned_refused, turned_all}
+use Rattle.document.specs.Refusals.{number}
+use Rattle.document.specs.Results.{Truth}
+use Rattle.std.specs.Prelude.{Err, Ok}
+use Rattle.document.specs.declared.refusal.Refusal.{Refusal}
 
 -- an id that is passed on comes back as the machine reads it
 pub at_id : (x : Mem) (z : ℤ) → SFits w64 z → {a : Truth} {y : Mem} → Does x (insert (to_z w64 (of_z w64 z))) (whether a) y → Does x (insert z) (whether a) y
@@ -40,17 +42,10 @@ module _ {x y : Mem} {z : ℤ} {a : Truth} (d : Does x (insert z) (whether a) y)
   told_state : Follows x → state_of y ≡ after_of (state_of x) z
   told_state w = (d.says w).state
 
-  told_same : (n : ℕ) → a ≡ Refused n → y ≡ x
+  told_same : (n : Refusal) → a ≡ Err n → y ≡ x
   told_same n e = told_after ∙ insert_refused x z n (told_answer ∙ e)
 
 -- ---- so far
-
--- every slice is as long as it was
-pub record Kept (x y : Mem) : Type 0 where
-  pub pages : length y.pages ≡ length x.pages
-  pub rows : length y.rows ≡ length x.rows
-  pub blocks : length y.blocks ≡ length x.blocks
-  pub table : length y.table ≡ length x.table
 
 -- from memory x the first i of ids are taken, f of them new, and led to memory y
 pub record Sofar (x : Mem) (ids : List ℤ) (i f : ℕ) (y : Mem) : Type 0 where
@@ -62,7 +57,7 @@ sofar_none x ids = record { models = turned_none answer_by after_by x ids; says 
 
 module _ (x : Mem) (ids : List ℤ) (i f : ℕ) (y : Mem) (s : Sofar x ids i f y) where
   module _ (l : i < length ids) (z : ℤ) (e : z ≡ get_or ids i (pos 0)) (u : Mem) where
-    pub sofar_next : (r : Truth) (b : Bool) → Does y (insert z) (whether r) u → r ≡ Is b → Sofar x ids (i + 1) (f + bool_byte b) u
+    pub sofar_next : (r : Truth) (b : Bool) → Does y (insert z) (whether r) u → r ≡ Ok b → Sofar x ids (i + 1) (f + bool_byte b) u
     sofar_next r b d q = record {
       models = turned_next answer_by after_by x ids i f y s.models l z e b u (told_answer d ∙ q) (told_after d);
       says = λ w.
@@ -72,7 +67,7 @@ module _ (x : Mem) (ids : List ℤ) (i f : ℕ) (y : Mem) (s : Sofar x ids i f y
           );
     }
 
-    pub sofar_refused : (r : Truth) (n : ℕ) → Does y (insert z) (whether r) u → r ≡ Refused n → InsertsAll x ids (inserted_of i f n) u
+    pub sofar_refused : (r : Truth) (n : Refusal) → Does y (insert z) (whether r) u → r ≡ Err n → InsertsAll x ids (inserted_of i f (number n)) u
     sofar_refused r n d q =
         let same = told_same d n q in record {
           said = turned_refused answer_by after_by x ids i f y s.models l z e n (told_answer d ∙ q);

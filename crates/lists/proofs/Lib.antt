@@ -1,7 +1,6 @@
 pub mod Answered
 pub mod AfterWalk
 pub mod Outcomes
-pub mod Singles
 pub mod Near
 pub mod Turns
 pub mod Inserting

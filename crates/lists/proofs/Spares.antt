@@ -10,10 +10,7 @@ use lib.Dec.{leb, ltb, eqb}
 use lib.Seq.{get_or-set_other}
 use borrow.Author.Tests.{leb-true}
 use Rattle.numbers.specs.Ids.{split_of}
-use Rattle.numbers.specs.declared.Split.{Split}
-use Rattle.numbers.specs.declared.Split.TheVariants as split
 use Rattle.document.specs.declared.sizes.Sizes.{Sizes}
-use Rattle.document.specs.declared.answer.Truth.TheVariants as truth
 use Rattle.layout.specs.Mem.{Mem}
 use Rattle.layout.specs.Sizes.{direct_at, over_start, over_at, row_owners_at, page_owners_at, header_at, head, mode_at, over_count}
 use Rattle.layout.specs.Places.{encoded}
@@ -28,10 +25,12 @@ use Rattle.layout_laws.proofs.Spares.{spare_same, spare_then}
 use Rattle.steps.specs.Steps.{rowed, paged}
 use Rattle.calls.specs.Reading.{shift_ok}
 use Rattle.calls.specs.Insert.{Told, told, acted, insert_plan, insert_at, insert_by}
-use Rattle.calls.specs.declared.plan.Plan.{Plan}
-use Rattle.calls.specs.declared.plan.Plan.TheVariants.{Refuse, Known, Mark, Enter, Begin, Turn}
 use Rattle.calls.proofs.InsertSpares.{insert_by_spare}
 use Rattle.lists.specs.Inserts.{all_next, after_by}
+use Rattle.calls.specs.Planned.{InsertPlan}
+use Rattle.calls.specs.declared.plan.Plan.TheVariants.{Begin, Enter, Known, Mark, Turn}
+use Rattle.document.specs.Refusals.{is_ranked, not_laid_out}
+use Rattle.std.specs.Prelude.{Err, None, Ok, Option, Some, ℕ}
 
 -- ---- the header's sizes, one write after the other
 
@@ -81,31 +80,31 @@ module _ (x : Mem) where
   stays_if true s t p q = p
   stays_if false s t p q = q
 
-  acted_stays : (c o : ℕ) (q : Plan) → Stays (acted x c o q)
+  acted_stays : (c o : ℕ) (q : InsertPlan) → Stays (acted x c o q)
   unfolding rowed paged
-  acted_stays c o (Refuse n) = heads_same
-  acted_stays c o Known = heads_same
-  acted_stays c o (Mark p) = heads_same
-  acted_stays c o (Enter r l k) = word_heads (head x) x.table c (encoded (Sparse r (l + 1)))
-  acted_stays c o (Begin r) =
+  acted_stays c o (Err n) = heads_same
+  acted_stays c o (Ok Known) = heads_same
+  acted_stays c o (Ok (Mark p)) = heads_same
+  acted_stays c o (Ok (Enter r l k)) = word_heads (head x) x.table c (encoded (Sparse r (l + 1)))
+  acted_stays c o (Ok (Begin r)) =
       let t = put_word (head x) x.table c (encoded (Sparse r 1)) in
       heads_then (word_heads (head x) x.table c (encoded (Sparse r 1))) (owner_heads 9 (row_owners_at (head x)) t r (c + 1) (omega arith) (omega arith))
-  acted_stays c o (Turn r l p) =
+  acted_stays c o (Ok (Turn r l p)) =
       let t = put_word (head x) x.table c (encoded (Dense p)) in
       let u = put_row_owner (head x) t r 0 in
       heads_then (heads_then (word_heads (head x) x.table c (encoded (Dense p))) (owner_heads 9 (row_owners_at (head x)) t r 0 (omega arith) (omega arith)))
       (owner_heads 10 (page_owners_at (head x)) u p (c + 1) (omega arith) (omega arith))
 
-  at_stays : (q : Split) → Stays (insert_at x q)
-  at_stays (split.At c o) = acted_stays c o (insert_plan x c o)
-  at_stays split.Negative = heads_same
+  at_stays : (q : (Option (ℕ × ℕ))) → Stays (insert_at x q)
+  at_stays (Some (c, o)) = acted_stays c o (insert_plan x c o)
+  at_stays None = heads_same
 
   insert_stays : (z : ℤ) → Stays (insert_by x z)
   unfolding insert_by
   insert_stays z =
       let t = insert_at x (split_of (head x).s z) in
-      stays_if (shift_ok x.table && leb (mode_at x.table) 1) (cond (eqb (mode_at x.table) 1) (told (truth.Refused 4) x) t) (told (truth.Refused 3) x)
-      (stays_if (eqb (mode_at x.table) 1) (told (truth.Refused 4) x) t heads_same (at_stays (split_of (head x).s z))) heads_same
+      stays_if (shift_ok x.table && leb (mode_at x.table) 1) (cond (eqb (mode_at x.table) 1) (told (Err is_ranked) x) t) (told (Err not_laid_out) x)
+      (stays_if (eqb (mode_at x.table) 1) (told (Err is_ranked) x) t heads_same (at_stays (split_of (head x).s z))) heads_same
 
   insert_sizes : (z : ℤ) → header_at (insert_by x z).after.table ≡ header_at x.table
   insert_sizes z =

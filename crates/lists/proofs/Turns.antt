@@ -10,10 +10,12 @@ use lib.IntN.{ℤ, pos}
 use lib.ListN.{length, get_or, take, drop}
 use mir.Val.{bool_byte}
 use Rattle.sums.proofs.Counts.{byte_le}
-use Rattle.document.specs.declared.answer.Truth.{Truth}
-use Rattle.document.specs.declared.answer.Truth.TheVariants.{Is, Refused}
 use Rattle.lists.specs.declared.insert.Inserted.{Inserted}
 use Rattle.lists.specs.Inserts.{inserted_of, then_rest, in_turn, all_next}
+use Rattle.document.specs.Refusals.{number}
+use Rattle.document.specs.Results.{Truth}
+use Rattle.std.specs.Prelude.{Err, Ok}
+use Rattle.document.specs.declared.refusal.Refusal.{Refusal}
 
 drop_here : (i : ℕ) (zs : List ℤ) → i < length zs → drop i zs ≡ get_or zs i (pos 0) ∷ drop (suc i) zs
 drop_here i [] l = absurd (not-suc-le-zero l)
@@ -37,8 +39,8 @@ ahead_none t f n =
     ap₂ (λ (v w : ℕ). inserted_of v w n) i g
 
 ahead_rest : (r : Truth) (a : Inserted) → then_rest r a ≡ ahead 0 0 (then_rest r a)
-ahead_rest (Is b) a = ahead_none (suc a.taken) (bool_byte b + a.fresh) a.stop
-ahead_rest (Refused n) a = ahead_none 0 0 n
+ahead_rest (Ok b) a = ahead_none (suc a.taken) (bool_byte b + a.fresh) a.stop
+ahead_rest (Err n) a = ahead_none 0 0 (number n)
 
 module _ {A : Type 0} (answer : A → ℤ → Truth) (next : A → ℤ → A) where
   -- of zs from q on the first i are taken, f of them new, and led to p
@@ -70,7 +72,7 @@ module _ {A : Type 0} (answer : A → ℤ → Truth) (next : A → ℤ → A) wh
           ∙ ap (λ (y : ℤ). ahead i f (then_rest (answer p y) (in_turn answer next (next p y) (drop (suc i) zs)))) (sym e)
 
       -- one more
-      pub turned_next : (b : Bool) (p' : A) → answer p z ≡ Is b → p' ≡ next p z → Turned q zs (i + 1) (f + bool_byte b) p'
+      pub turned_next : (b : Bool) (p' : A) → answer p z ≡ Ok b → p' ≡ next p z → Turned q zs (i + 1) (f + bool_byte b) p'
       turned_next b p' a m =
           let r = in_turn answer next p' (drop (suc i) zs) in
           let j : i + suc r.taken ≡ suc i + r.taken = omega arith in
@@ -85,11 +87,11 @@ module _ {A : Type 0} (answer : A → ℤ → Truth) (next : A → ℤ → A) wh
           }
 
       -- the next is refused
-      pub turned_refused : (n : ℕ) → answer p z ≡ Refused n → inserted_of i f n ≡ in_turn answer next q zs
+      pub turned_refused : (n : Refusal) → answer p z ≡ Err n → inserted_of i f (number n) ≡ in_turn answer next q zs
       turned_refused n a =
           let j : i ≡ i + 0 = omega arith in
           let g : f ≡ f + 0 = omega arith in
-          ap₂ (λ (v w : ℕ). inserted_of v w n) j g
+          ap₂ (λ (v w : ℕ). inserted_of v w (number n)) j g
           ∙ sym (here ∙ ap (λ (v : Truth). ahead i f (then_rest v (in_turn answer next (next p z) (drop (suc i) zs)))) a)
 
     -- there is no next
@@ -106,13 +108,13 @@ module _ {A : Type 0} (answer : A → ℤ → Truth) (next : A → ℤ → A) wh
   -- every id is taken, or the next one is refused where those before it led
   pub data Ending (q : A) (zs : List ℤ) (a : Inserted) : Type 0 where
     whole : a.taken ≡ length zs → a.stop ≡ 0 → Ending q zs a
-    stopped : a.taken < length zs → answer (all_next next q (take a.taken zs)) (get_or zs a.taken (pos 0)) ≡ Refused a.stop → Ending q zs a
+    stopped : a.taken < length zs → (n : Refusal) → answer (all_next next q (take a.taken zs)) (get_or zs a.taken (pos 0)) ≡ Err n → a.stop ≡ number n → Ending q zs a
 
   ending_next : (q : A) (z : ℤ) (zs : List ℤ) (a : Inserted) (r : Truth) → answer q z ≡ r → Ending (next q z) zs a → Ending q (z ∷ zs) (then_rest r a)
   unfolding all_next
-  ending_next q z zs a (Is b) e (whole t n) = whole (ap suc t) n
-  ending_next q z zs a (Is b) e (stopped l s) = let h : suc a.taken < suc (length zs) = omega arith in stopped h s
-  ending_next q z zs a (Refused n) e h = let h : 0 < suc (length zs) = omega arith in stopped h e
+  ending_next q z zs a (Ok b) e (whole t n) = whole (ap suc t) n
+  ending_next q z zs a (Ok b) e (stopped l n s d) = let h : suc a.taken < suc (length zs) = omega arith in stopped h n s d
+  ending_next q z zs a (Err n) e h = let h : 0 < suc (length zs) = omega arith in stopped h n e refl
 
   pub ending : (q : A) (zs : List ℤ) → Ending q zs (in_turn answer next q zs)
   unfolding in_turn
@@ -121,8 +123,8 @@ module _ {A : Type 0} (answer : A → ℤ → Truth) (next : A → ℤ → A) wh
 
   -- of those that were taken some were new
   fresh_next : (r : Truth) (a : Inserted) → a.fresh ≤ a.taken → (then_rest r a).fresh ≤ (then_rest r a).taken
-  fresh_next (Is b) a l = omega (arith, byte_le b)
-  fresh_next (Refused n) a l = omega arith
+  fresh_next (Ok b) a l = omega (arith, byte_le b)
+  fresh_next (Err n) a l = omega arith
 
   pub fresh_few : (q : A) (zs : List ℤ) → (in_turn answer next q zs).fresh ≤ (in_turn answer next q zs).taken
   unfolding in_turn

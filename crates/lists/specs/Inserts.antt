@@ -1,17 +1,17 @@
 -- `insert_all`: the single inserts in turn, up to the first that is refused. By the model of one insert, and by document 01's words.
-use Rattle.std.specs.Prelude.{◌≡◌, List, [], ◌∷◌, ℕ, suc, ◌+◌, ℤ, take}
+use Rattle.std.specs.Prelude.{◌≡◌, List, [], ◌∷◌, ℕ, suc, ◌+◌, ℤ, take, Ok, Err}
 use mir.Val.{bool_byte}
 use Rattle.document.specs.State.{State}
 use Rattle.document.specs.Calls.{insert}
 use Rattle.document.specs.Insert.{new_answer}
+use Rattle.document.specs.Refusals.{number}
 use Rattle.document.specs.Answers.{after}
-use Rattle.document.specs.declared.answer.Truth.{Truth}
-use Rattle.document.specs.declared.answer.Truth.TheVariants.{Is, Refused}
 use Rattle.layout.specs.Mem.{Mem}
 use Rattle.layout.specs.Meaning.{state_of}
 use Rattle.layout.specs.Follows.{Follows}
 use Rattle.calls.specs.Insert.{insert_by}
 use Rattle.lists.specs.declared.insert.Inserted.{Inserted}
+use Rattle.document.specs.Results.{Truth}
 
 -- how many ids were taken, how many of them were new, and what refused the next one: 0 where there is none
 abbrev pub inserted_of : ℕ → ℕ → ℕ → Inserted
@@ -19,8 +19,8 @@ inserted_of t f n = record { taken = t; fresh = f; stop = n }
 
 -- an id's answer, before what the ids behind it come to; a refusal is the last
 abbrev pub then_rest : Truth → Inserted → Inserted
-then_rest (Is b) a = inserted_of (suc a.taken) (bool_byte b + a.fresh) a.stop
-then_rest (Refused n) a = inserted_of 0 0 n
+then_rest (Ok b) a = inserted_of (suc a.taken) (bool_byte b + a.fresh) a.stop
+then_rest (Err n) a = inserted_of 0 0 (number n)
 
 -- ids in turn, each answered where the ids before it led
 unfoldable pub in_turn : {A : Type 0} → (A → ℤ → Truth) → (A → ℤ → A) → A → List ℤ → Inserted

@@ -1,17 +1,10 @@
 -- Calls over a list of ids: the single calls one after the other, on any memory, and what the contracts say.
-use Rattle.std.specs.Prelude.{◌≡◌, List, [], ◌∷◌, Bool, cond, ℕ, ◌-◌, ◌^◌, ℤ}
-use mir.Val.{bool_byte}
+use Rattle.std.specs.Prelude.{◌≡◌, List, [], ◌∷◌, Bool, cond, ℕ, ◌-◌, ◌^◌, ℤ, Some, None, Ok, Err}
+use mir.Syntax.{w64}
+use mir.Val.{SFits, bool_byte}
 use Rattle.sums.specs.Ids.{has, rank, RankIf, ranked, none, rank_if}
 use Rattle.document.specs.State.{State}
 use Rattle.document.specs.Refusals.{not_laid_out, is_open}
-use Rattle.document.specs.declared.answer.Outcome.{Outcome}
-use Rattle.document.specs.declared.answer.Outcome.TheVariants.{Done, Refused}
-use Rattle.document.specs.declared.answer.Truth.{Truth}
-use Rattle.document.specs.declared.answer.Truth.TheVariants as truth
-use Rattle.document.specs.declared.answer.Amount.{Amount}
-use Rattle.document.specs.declared.answer.Amount.TheVariants as amount
-use Rattle.document.specs.declared.answer.Perhaps.{Perhaps}
-use Rattle.document.specs.declared.answer.Perhaps.TheVariants as perhaps
 use Rattle.layout.specs.Mem.{Mem}
 use Rattle.layout.specs.Meaning as meaning
 use Rattle.layout.specs.Meaning.{state_of}
@@ -19,6 +12,7 @@ use Rattle.layout.specs.Follows.{Follows}
 use Rattle.layout.specs.Tests.{walked}
 use Rattle.calls.specs.Reading.{get_by}
 use Rattle.ranks.specs.Rank.{rank_by, rank_if_by}
+use Rattle.document.specs.Results.{Amount, Outcome, Perhaps, Truth}
 
 -- ---- calls that read a set
 
@@ -33,17 +27,17 @@ abbrev pub no_rank : ℕ
 no_rank = 2 ^ 64 - 1
 
 abbrev pub truth_number : Truth → ℕ
-truth_number (truth.Is b) = bool_byte b
-truth_number (truth.Refused c) = 0
+truth_number (Ok b) = bool_byte b
+truth_number (Err c) = 0
 
 abbrev pub amount_number : Amount → ℕ
-amount_number (amount.Of k) = k
-amount_number (amount.Refused c) = 0
+amount_number (Ok k) = k
+amount_number (Err c) = 0
 
 abbrev pub perhaps_number : Perhaps → ℕ
-perhaps_number (perhaps.Of k) = k
-perhaps_number perhaps.Nothing = no_rank
-perhaps_number (perhaps.Refused c) = 0
+perhaps_number (Ok (Some k)) = k
+perhaps_number (Ok None) = no_rank
+perhaps_number (Err c) = 0
 
 -- what one id is answered
 abbrev pub one_by : Mem → ListAsk → ℤ → ℕ
@@ -52,25 +46,29 @@ one_by x rank_all z = amount_number (rank_by x z)
 one_by x rank_if_all z = perhaps_number (rank_if_by x z)
 
 -- as many answers as the shorter list has; answers past them stay
-unfoldable pub answered : (ℤ → ℕ) → List ℤ → List ℕ → List ℕ
+unfoldable pub answered : {A : Type 0} → (ℤ → A) → List ℤ → List A → List A
 answered f [] ns = ns
 answered f (z ∷ zs) [] = []
 answered f (z ∷ zs) (n ∷ ns) = f z ∷ answered f zs ns
 
+-- what may be answered of an id is f of it
+abbrev pub Each : {A : Type 0} → (ℤ → A → Type 0) → (ℤ → A) → Type 0
+Each {A} may f = (z : ℤ) (a : A) → SFits w64 z → may z a → a ≡ f z
+
 -- 5 where ranks of an open set are asked for
 abbrev pub open_answer : Bool → ListAsk → Outcome
-open_answer mode get_all = Done
-open_answer mode rank_all = cond mode Done (Refused is_open)
-open_answer mode rank_if_all = cond mode Done (Refused is_open)
+open_answer mode get_all = Ok tt
+open_answer mode rank_all = cond mode (Ok tt) (Err is_open)
+open_answer mode rank_if_all = cond mode (Ok tt) (Err is_open)
 
 -- 3 where the walk finds the table wrong
 abbrev pub list_answer : Mem → ListAsk → Outcome
-list_answer x k = cond (walked x) (open_answer (meaning.ranked x) k) (Refused not_laid_out)
+list_answer x k = cond (walked x) (open_answer (meaning.ranked x) k) (Err not_laid_out)
 
 -- a refusal leaves all of them as they were
 abbrev pub unless_refused : Outcome → List ℕ → List ℕ → List ℕ
-unless_refused Done new old = new
-unless_refused (Refused c) new old = old
+unless_refused (Ok tt) new old = new
+unless_refused (Err c) new old = old
 
 -- ---- the same by the plain set
 

@@ -1,7 +1,7 @@
-// What one id of a list is answered, as a number.
-ghost use Rattle.std.specs.Prelude.{◌≡◌, true, ◌^◌, ◌<◌};
+// What one id of a list is answered, as a number. After the walk no single call is refused, so what stands in a refusal's place is never read.
+ghost use Rattle.std.specs.Prelude.{◌≡◌, true, ◌^◌, ◌<◌, Some};
+ghost use mir.Val.{bool_byte};
 ghost use Rattle.numbers.specs.Ids.{split_of};
-ghost use Rattle.numbers.specs.declared.Split.TheVariants.{At};
 ghost use Rattle.layout.specs.Mem.{mem};
 ghost use Rattle.layout.specs.Meaning.{ranked};
 ghost use Rattle.layout.specs.Sizes.{head};
@@ -12,19 +12,17 @@ ghost use Rattle.ranks.specs.Rank.{rank_seat};
 ghost use Rattle.lists.specs.Lists.{get_all, rank_all, rank_if_all, one_by};
 ghost use Rattle.lists.specs.Ways.{Judged};
 
-use crate::{number, spot};
-use document::answer::{Amount, Truth};
+use crate::spot;
+use document::refusal::Refusal;
 use document::sizes::Sizes;
 use layout::{entry, part};
-use numbers::{Split, id as ids};
+use numbers::id as ids;
 use ranked::rank;
 
 // Stands for none: no rank is that large.
-pub const NO_RANK: u64 = 0xffff_ffff_ffff_ffff;
+pub const NO_RANK: u64 = u64::MAX;
 
-// ---- membership: 1 for a member, 0 for another id
-
-const NO_MEMBER: u8 = 0;
+// ---- membership
 
 // Offset o of a chunk past the direct entries.
 fn far_has(
@@ -35,7 +33,7 @@ fn far_has(
     h: Sizes,
     c: u64,
     o: u64,
-) -> Truth
+) -> Result<bool, Refusal>
     requires { Judged (mem pages.now rows.now blocks.now table.now) h × (c < 2 ^ 62) × (o < 2 ^ h.s) }
     ensures { let x = mem pages.now rows.now blocks.now table.now in
         result ≡ has_at x o (spot_by x (word_of (head x) x.table c)) }
@@ -44,18 +42,38 @@ fn far_has(
     part::has(pages, rows, q, o)
 }
 
+// An id that is offset o of chunk c. Compiled into the loops of both its callers.
+#[inline(always)]
+fn has(
+    pages: &[u64],
+    rows: &[u32],
+    blocks: &[u32],
+    table: &[u64],
+    h: Sizes,
+    id: i64,
+    c: u64,
+    o: u64,
+) -> bool
+    requires { let x = mem pages.now rows.now blocks.now table.now in
+        Judged x h × (Some (c, o) ≡ split_of h.s id) × (c < 2 ^ 62) }
+    ensures { bool_byte result ≡ one_by (mem pages.now rows.now blocks.now table.now) get_all id }
+{
+    if h.d <= c {
+        return far_has(pages, rows, blocks, table, h, c, o).unwrap_or(false);
+    }
+    let q = spot::of_chunk(pages, rows, blocks, table, h, c);
+    part::has(pages, rows, Ok(q), o).unwrap_or(false)
+}
+
+// 1 for a member, 0 for another id.
 pub fn got(pages: &[u64], rows: &[u32], blocks: &[u32], table: &[u64], h: Sizes, id: i64) -> u8
     requires { Judged (mem pages.now rows.now blocks.now table.now) h }
     ensures { result ≡ one_by (mem pages.now rows.now blocks.now table.now) get_all id }
 {
-    let Split::At(c, o) = ids::split(id, h.s) else {
+    let Some((c, o)) = ids::split(id, h.s) else {
         return 0;
     };
-    if h.d <= c {
-        return number::of_truth(far_has(pages, rows, blocks, table, h, c, o));
-    }
-    let q = spot::of_chunk(pages, rows, blocks, table, h, c);
-    number::of_truth(part::has(pages, rows, q, o))
+    u8::from(has(pages, rows, blocks, table, h, id, c, o))
 }
 
 // ---- the rank of an id
@@ -69,7 +87,7 @@ fn placed(
     h: Sizes,
     c: u64,
     o: u64,
-) -> Amount
+) -> Result<u64, Refusal>
     requires { Judged (mem pages.now rows.now blocks.now table.now) h × (c < h.d) × (o < 2 ^ h.s) }
     ensures { let x = mem pages.now rows.now blocks.now table.now in
         result ≡ rank_seat x o (seat_in x.table c) }
@@ -77,11 +95,12 @@ fn placed(
     let q = spot::of_chunk(pages, rows, blocks, table, h, c);
     rank_chunk::after(
         entry::prefix_at(table, h, c),
-        rank_chunk::below_in(pages, rows, blocks, q, o),
+        rank_chunk::below_in(pages, rows, blocks, Ok(q), o),
     )
 }
 
-// An id that is offset o of chunk c. A chunk past the direct entries is left to the single call.
+// An id that is offset o of chunk c. A chunk past the direct entries is left to the single call. Compiled into the loops of both its callers.
+#[inline(always)]
 fn rank_in(
     pages: &[u64],
     rows: &[u32],
@@ -93,57 +112,36 @@ fn rank_in(
     o: u64,
 ) -> u64
     requires { let x = mem pages.now rows.now blocks.now table.now in
-        Judged x h × (ranked x ≡ true) × (At c o ≡ split_of h.s id) × (c < 2 ^ 62) }
+        Judged x h × (ranked x ≡ true) × (Some (c, o) ≡ split_of h.s id) × (c < 2 ^ 62) }
     ensures { result ≡ one_by (mem pages.now rows.now blocks.now table.now) rank_all id }
 {
     if h.d <= c {
-        return number::of_amount(rank::rank(pages, rows, blocks, table, id));
+        return rank::rank(pages, rows, blocks, table, id).unwrap_or(0);
     }
-    number::of_amount(placed(pages, rows, blocks, table, h, c, o))
+    placed(pages, rows, blocks, table, h, c, o).unwrap_or(0)
 }
 
 pub fn rank_of(pages: &[u64], rows: &[u32], blocks: &[u32], table: &[u64], h: Sizes, id: i64) -> u64
     requires { let x = mem pages.now rows.now blocks.now table.now in Judged x h × (ranked x ≡ true) }
     ensures { result ≡ one_by (mem pages.now rows.now blocks.now table.now) rank_all id }
 {
-    let Split::At(c, o) = ids::split(id, h.s) else {
+    let Some((c, o)) = ids::split(id, h.s) else {
         return 0;
     };
     rank_in(pages, rows, blocks, table, h, id, c, o)
 }
 
-// `got` once more, of an id that is offset o of chunk c: with two callers it would be compiled into neither loop.
-fn there(
-    pages: &[u64],
-    rows: &[u32],
-    blocks: &[u32],
-    table: &[u64],
-    h: Sizes,
-    id: i64,
-    c: u64,
-    o: u64,
-) -> u8
-    requires { let x = mem pages.now rows.now blocks.now table.now in
-        Judged x h × (At c o ≡ split_of h.s id) × (c < 2 ^ 62) }
-    ensures { result ≡ one_by (mem pages.now rows.now blocks.now table.now) get_all id }
-{
-    if h.d <= c {
-        return number::of_truth(far_has(pages, rows, blocks, table, h, c, o));
-    }
-    let q = spot::of_chunk(pages, rows, blocks, table, h, c);
-    number::of_truth(part::has(pages, rows, q, o))
-}
-
-// The rank of a member: is it there, and then where, by the single call: with two callers `rank_in` would be compiled into neither loop.
+// The rank of a member: is it there, and then where.
 pub fn rank_if(pages: &[u64], rows: &[u32], blocks: &[u32], table: &[u64], h: Sizes, id: i64) -> u64
     requires { let x = mem pages.now rows.now blocks.now table.now in Judged x h × (ranked x ≡ true) }
     ensures { result ≡ one_by (mem pages.now rows.now blocks.now table.now) rank_if_all id }
 {
-    let Split::At(c, o) = ids::split(id, h.s) else {
+    let Some((c, o)) = ids::split(id, h.s) else {
         return NO_RANK;
     };
-    if there(pages, rows, blocks, table, h, id, c, o) == NO_MEMBER {
-        return NO_RANK;
+    if has(pages, rows, blocks, table, h, id, c, o) {
+        rank_in(pages, rows, blocks, table, h, id, c, o)
+    } else {
+        NO_RANK
     }
-    number::of_amount(rank::rank(pages, rows, blocks, table, id))
 }

@@ -4,11 +4,10 @@ ghost use Rattle.layout.specs.Mem.{mem};
 ghost use Rattle.contracts.specs.Does.{Does};
 ghost use Rattle.lists.specs.Inserts.{InsertsAll};
 
-use document::answer::Truth;
-use insert_ways::direct::Direct;
+use document::refusal::Refusal;
 use insert_ways::{direct, whole};
 
-// How many ids were taken, and how many of them were new; 0, or the number that refused the next one.
+// How many ids were taken, and how many of them were new; 0, or the number that refused the next one. C's record: so a number, and no Option.
 #[repr(C)]
 #[derive(Clone, Copy)]
 pub struct Inserted {
@@ -18,14 +17,20 @@ pub struct Inserted {
 }
 
 // One id, as `set_if_new` does it. The short way stands here too, so that it is compiled into the loop.
-fn one(pages: &mut [u64], rows: &mut [u32], blocks: &mut [u32], table: &mut [u64], id: i64) -> Truth
+fn one(
+    pages: &mut [u64],
+    rows: &mut [u32],
+    blocks: &mut [u32],
+    table: &mut [u64],
+    id: i64,
+) -> Result<bool, Refusal>
     ensures { let x = mem pages.old rows.old blocks.old table.old in
         let y = mem pages.new rows.new blocks.new table.new in
         Does x (insert id) (whether result) y }
 {
     match direct::put(pages, rows, blocks, table, id) {
-        Direct::Is(b) => Truth::Is(b),
-        Direct::Elsewhere => whole::anywhere(pages, rows, blocks, table, id),
+        Some(b) => Ok(b),
+        None => whole::anywhere(pages, rows, blocks, table, id),
     }
 }
 
@@ -41,25 +46,21 @@ pub fn insert_all(
         let y = mem pages.new rows.new blocks.new table.new in
         InsertsAll x ids.now result y }
 {
-    let mut taken: usize = 0;
     let mut fresh: u64 = 0;
-    while taken < ids.len() {
-        match one(pages, rows, blocks, table, ids[taken]) {
-            Truth::Is(b) => {
-                fresh += b as u64;
-                taken += 1;
-            }
-            Truth::Refused(n) => {
+    for (taken, id) in ids.iter().enumerate() {
+        match one(pages, rows, blocks, table, *id) {
+            Ok(b) => fresh += u64::from(b),
+            Err(n) => {
                 return Inserted {
                     taken: taken as u64,
                     fresh,
-                    stop: n,
+                    stop: n.number(),
                 };
             }
         }
     }
     Inserted {
-        taken: taken as u64,
+        taken: ids.len() as u64,
         fresh,
         stop: 0,
     }

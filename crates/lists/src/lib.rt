@@ -3,6 +3,5 @@
 
 mod each;
 pub mod insert;
-mod number;
 pub mod read;
 mod spot;

@@ -1,48 +1,26 @@
 // Reading calls over a list: judged once by a walk, and then as many answers as the shorter of the two lists has. Answers past them stay.
-ghost use Rattle.std.specs.Prelude.{◌≡◌, min, true};
+ghost use Rattle.std.specs.Prelude.{◌≡◌, ℤ};
 ghost use Rattle.layout.specs.Mem.{mem};
-ghost use Rattle.layout.specs.Meaning.{ranked};
-ghost use Rattle.layout.specs.Sizes.{head};
-ghost use Rattle.layout.specs.Tests.{Walked};
-ghost use Rattle.lists.specs.Lists.{get_all, rank_all, rank_if_all, one_by, answered, list_answer, AnswersAll};
+ghost use Rattle.lists.specs.Lists.{get_all, rank_all, rank_if_all, answered, list_answer, AnswersAll, Each};
 
 use crate::each;
-use document::answer::Outcome;
-use document::refusal;
+use document::refusal::Refusal;
 use layout::head;
 use layout_walk::walk;
-use numbers::order;
 
-// The shorter of two.
-fn shorter(a: usize, b: usize) -> usize
-    ensures { result ≡ min a b }
+// What `one` answers each id, as many as the shorter list has. It is compiled into each caller, and `one` into its loop.
+fn answer_each<A: Copy, F: Fn(i64) -> A>(ids: &[i64], answers: &mut [A], one: F)
+    requires { F.IsAlwaysCallable one }
+    ensures { (f : ℤ → A) → Each (F.post one) f → answers.new ≡ answered f ids.now answers.old }
 {
-    order::least_of(a as u64, b as u64) as usize
-}
-
-// Each answer, 1 or 0.
-fn get_each(
-    ids: &[i64],
-    answers: &mut [u8],
-    pages: &[u64],
-    rows: &[u32],
-    blocks: &[u32],
-    table: &[u64],
-)
-    requires { let x = mem pages.now rows.now blocks.now table.now in Walked x (head x) }
-    ensures { let x = mem pages.now rows.now blocks.now table.now in
-        answers.new ≡ answered (one_by x get_all) ids.now answers.old }
-{
-    let h = head::read(table);
-    let n = shorter(ids.len(), answers.len());
-    let mut i: usize = 0;
-    while i < n {
-        answers[i] = each::got(pages, rows, blocks, table, h, ids[i]);
-        i += 1;
+    let n = ids.len().min(answers.len());
+    // Not `zip` with `iter_mut`: what was written through it is not known to a proof.
+    for i in 0..n {
+        answers[i] = one(ids[i]);
     }
 }
 
-// Whether each id is a member.
+// Whether each id is a member, 1 or 0.
 pub fn get_all(
     ids: &[i64],
     answers: &mut [u8],
@@ -50,50 +28,33 @@ pub fn get_all(
     rows: &[u32],
     blocks: &[u32],
     table: &[u64],
-) -> Outcome
+) -> Result<(), Refusal>
     ensures { let x = mem pages.now rows.now blocks.now table.now in
         AnswersAll x get_all ids.now answers.old result answers.new }
 {
     if !walk::walk(pages, rows, blocks, table) {
-        return Outcome::Refused(refusal::NOT_LAID_OUT);
+        return Err(Refusal::NotLaidOut);
     }
-    get_each(ids, answers, pages, rows, blocks, table);
-    Outcome::Done
+    let h = head::read(table);
+    answer_each(
+        ids,
+        answers,
+        |id| each::got(pages, rows, blocks, table, h, id),
+    );
+    Ok(())
 }
 
 // 3 where the walk finds the table wrong, 5 of an open set.
-fn judge(pages: &[u64], rows: &[u32], blocks: &[u32], table: &[u64]) -> Outcome
+fn judge(pages: &[u64], rows: &[u32], blocks: &[u32], table: &[u64]) -> Result<(), Refusal>
     ensures { result ≡ list_answer (mem pages.now rows.now blocks.now table.now) rank_all }
 {
     if !walk::walk(pages, rows, blocks, table) {
-        return Outcome::Refused(refusal::NOT_LAID_OUT);
+        return Err(Refusal::NotLaidOut);
     }
     if head::mode(table) != head::RANKED {
-        return Outcome::Refused(refusal::IS_OPEN);
+        return Err(Refusal::IsOpen);
     }
-    Outcome::Done
-}
-
-// Each rank.
-fn rank_each(
-    ids: &[i64],
-    answers: &mut [u64],
-    pages: &[u64],
-    rows: &[u32],
-    blocks: &[u32],
-    table: &[u64],
-)
-    requires { let x = mem pages.now rows.now blocks.now table.now in Walked x (head x) × (ranked x ≡ true) }
-    ensures { let x = mem pages.now rows.now blocks.now table.now in
-        answers.new ≡ answered (one_by x rank_all) ids.now answers.old }
-{
-    let h = head::read(table);
-    let n = shorter(ids.len(), answers.len());
-    let mut i: usize = 0;
-    while i < n {
-        answers[i] = each::rank_of(pages, rows, blocks, table, h, ids[i]);
-        i += 1;
-    }
+    Ok(())
 }
 
 // The rank of each id.
@@ -104,37 +65,18 @@ pub fn rank_all(
     rows: &[u32],
     blocks: &[u32],
     table: &[u64],
-) -> Outcome
+) -> Result<(), Refusal>
     ensures { let x = mem pages.now rows.now blocks.now table.now in
         AnswersAll x rank_all ids.now answers.old result answers.new }
 {
-    let Outcome::Refused(n) = judge(pages, rows, blocks, table) else {
-        rank_each(ids, answers, pages, rows, blocks, table);
-        return Outcome::Done;
-    };
-    Outcome::Refused(n)
-}
-
-// Each member's rank; 2^64 - 1 stands for none.
-fn rank_if_each(
-    ids: &[i64],
-    answers: &mut [u64],
-    pages: &[u64],
-    rows: &[u32],
-    blocks: &[u32],
-    table: &[u64],
-)
-    requires { let x = mem pages.now rows.now blocks.now table.now in Walked x (head x) × (ranked x ≡ true) }
-    ensures { let x = mem pages.now rows.now blocks.now table.now in
-        answers.new ≡ answered (one_by x rank_if_all) ids.now answers.old }
-{
+    judge(pages, rows, blocks, table)?;
     let h = head::read(table);
-    let n = shorter(ids.len(), answers.len());
-    let mut i: usize = 0;
-    while i < n {
-        answers[i] = each::rank_if(pages, rows, blocks, table, h, ids[i]);
-        i += 1;
-    }
+    answer_each(
+        ids,
+        answers,
+        |id| each::rank_of(pages, rows, blocks, table, h, id),
+    );
+    Ok(())
 }
 
 // The rank of each member; 2^64 - 1 stands for none.
@@ -145,13 +87,16 @@ pub fn rank_if_set_all(
     rows: &[u32],
     blocks: &[u32],
     table: &[u64],
-) -> Outcome
+) -> Result<(), Refusal>
     ensures { let x = mem pages.now rows.now blocks.now table.now in
         AnswersAll x rank_if_all ids.now answers.old result answers.new }
 {
-    let Outcome::Refused(n) = judge(pages, rows, blocks, table) else {
-        rank_if_each(ids, answers, pages, rows, blocks, table);
-        return Outcome::Done;
-    };
-    Outcome::Refused(n)
+    judge(pages, rows, blocks, table)?;
+    let h = head::read(table);
+    answer_each(
+        ids,
+        answers,
+        |id| each::rank_if(pages, rows, blocks, table, h, id),
+    );
+    Ok(())
 }

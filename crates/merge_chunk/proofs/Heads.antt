@@ -2,37 +2,25 @@
 use mathlib.Core.Path.{◌≡◌, refl, ◌∙◌}
 use mathlib.Core.List.{List}
 use mathlib.Core.Bool.{Bool, true, false, cond, ◌&&◌}
-use Prim.Native.Nat.{ℕ, zero, suc, ◌+◌, ◌-◌, ◌/◌, ◌≤◌, ◌<◌}
+use Prim.Native.Nat.{ℕ, ◌+◌, ◌≤◌, ◌<◌}
 use native.Mathlib.Omega.{arith}
 use lib.ListN.{length, get_or, set}
 use lib.Seq.{get_or-set_other}
 use lib.Dec.{leb, ltb, eqb}
-use borrow.Author.Tests.{ltb-true, leb-true}
+use borrow.Author.Tests.{leb-true}
 use Rattle.document.specs.declared.sizes.Sizes.{Sizes}
 use Rattle.layout.specs.Mem.{Mem}
 use Rattle.layout.specs.Sizes.{direct_at, over_start, over_at, row_owners_at, page_owners_at, header_at, head, over_count}
 use Rattle.layout.specs.Places.{encoded}
-use Rattle.layout.specs.Short.{lower_key, key_at, over_place}
+use Rattle.layout.specs.Short.{key_at, over_place}
 use Rattle.layout.specs.Writes.{added, over_put, put_word, put_owner, put_row_owner}
 use Rattle.layout.specs.declared.place.Place.{Place}
 use Rattle.layout.specs.declared.place.Place.TheVariants.{Absent, Sparse, Dense}
 use Rattle.layout.proofs.Added.{added_low}
 use Rattle.layout.proofs.Owners.{put_owner_off}
+use Rattle.layout_laws.proofs.Halving.{lower_between}
 use Rattle.steps.specs.Steps.{paged}
 use Rattle.calls.specs.Prepare.{into_page}
-
--- the place that halving finds
-module _ (key : ℕ → ℕ) (c : ℕ) where
-  lower_le : (turns lo hi : ℕ) → lo ≤ hi → lower_key turns key c lo hi ≤ hi
-  unfolding lower_key
-  lower_le zero lo hi l = l
-  lower_le (suc turns) lo hi l = go (lower_le turns) (ltb lo hi) refl (ltb (key (lo + (hi - lo) / 2)) c)
-    where
-      go : ((i j : ℕ) → i ≤ j → lower_key turns key c i j ≤ j) → (a : Bool) → ltb lo hi ≡ a → (b : Bool)
-          → cond a (cond b (lower_key turns key c (lo + (hi - lo) / 2 + 1) hi) (lower_key turns key c lo (lo + (hi - lo) / 2))) lo ≤ hi
-      go less true e true = let m = ltb-true lo hi e in less (lo + (hi - lo) / 2 + 1) hi (omega arith)
-      go less true e false = let m = ltb-true lo hi e in let n = less lo (lo + (hi - lo) / 2) (omega arith) in omega arith
-      go less false e b = l
 
 -- ---- the header's first six words
 
@@ -54,7 +42,7 @@ module _ (h : Sizes) (t : List ℕ) (c w : ℕ) where
   head_over true b e = head_set t (over_at h at + 1) w (omega arith)
   head_over false true e =
       same_six t (added h t c w at)
-      (λ i l. added_low h t c w at (lower_le (key_at t (over_start h.d)) c (over_count t) 0 (over_count t) (omega arith))
+      (λ i l. added_low h t c w at (lower_between (key_at t (over_start h.d)) c (over_count t) 0 (over_count t) (omega arith)).1
       (leb-true (over_at h (over_count t + 1)) (length t) e) i (omega arith) (omega arith))
   head_over false false e = refl
 

@@ -1,3 +1,1 @@
 pub mod Heads
-pub mod Rows
-pub mod Pages

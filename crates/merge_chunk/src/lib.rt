@@ -27,13 +27,13 @@ fn page_or(o: Place, p: u64) -> u64
     ensures { result ≡ page_or o p }
 {
     match o {
-        Place::Absent => p,
-        Place::Sparse(_, _) => p,
+        Place::Absent | Place::Sparse(_, _) => p,
         Place::Dense(i) => i,
     }
 }
 
 // Chunk c, at o until now, goes into page p with its members; a dense one stays where it is.
+#[tactic(auto, using(steps::proofs::Fills::blank_paged))]
 fn into_page(
     pages: &mut [u64],
     rows: &mut [u32],
@@ -62,12 +62,12 @@ fn join_dense(pages: &mut [u64], h: Sizes, p: u64, o: Place, spages: &[u64], g: 
 {
     match o {
         Place::Absent => page::copy(pages, h, p, spages, g, i),
-        Place::Sparse(_, _) => page::unite(pages, h, p, spages, g, i),
-        Place::Dense(_) => page::unite(pages, h, p, spages, g, i),
+        Place::Sparse(_, _) | Place::Dense(_) => page::unite(pages, h, p, spages, g, i),
     }
 }
 
 // Page p gets the source's members, at q. Its row is read by the sizes of both: their rows are as wide.
+#[tactic(auto, using(steps::proofs::Fills::put_back))]
 fn join_page(
     pages: &mut [u64],
     h: Sizes,
@@ -86,14 +86,7 @@ fn join_page(
     match q {
         Place::Absent => {}
         Place::Sparse(i, k) => {
-            let f = Sizes {
-                s: h.s,
-                m: h.m,
-                d: h.d,
-                v: h.v,
-                r: g.r,
-                p: h.p,
-            };
+            let f = Sizes { r: g.r, ..h };
             turn::fill_page(pages, srows, f, i, k as usize, p)
         }
         Place::Dense(i) => join_dense(pages, h, p, o, spages, g, i),
@@ -133,6 +126,7 @@ pub fn densely(
 // ---- sparse
 
 // Chunk c, absent here, takes the lowest free row, r, with the source's k offsets.
+#[tactic(auto, unfolding(steps::specs::Steps::rowed))]
 fn take_row(
     rows: &mut [u32],
     table: &mut [u64],
@@ -157,6 +151,7 @@ fn take_row(
 }
 
 // Chunk c, with l members in row r, stays there with the source's k offsets.
+#[tactic(auto, unfolding(steps::specs::Steps::rowed))]
 fn join_row(
     rows: &mut [u32],
     table: &mut [u64],
@@ -222,8 +217,7 @@ pub fn sparsely(
     ensures { Sparsely rows.old table.old rows.new table.new srows.now g c o q }
 {
     match q {
-        Place::Absent => {}
+        Place::Absent | Place::Dense(_) => {}
         Place::Sparse(i, k) => with_row(rows, table, h, c, o, r, srows, g, i, k),
-        Place::Dense(_) => {}
     }
 }

@@ -1,4 +1,3 @@
-pub mod Stands
-pub mod Dense
+pub mod Rows
 pub mod Judging
 pub mod Planning

@@ -6,16 +6,14 @@ ghost use Rattle.unions.specs.Union.{source_entries, judged};
 ghost use Rattle.merge_plan.specs.Judging.{Passed, OnAny, Small, with_chunk, growth_to};
 
 use crate::{kind, place as places};
-use document::answer::Outcome;
-use document::refusal;
+use document::refusal::Refusal;
 use document::sizes::Sizes;
 use layout::place::Place;
 use layout::{entry, head, place};
 use layout_walk::owners;
-use numbers::order;
 
 // How the map grows: overflow entries, rows, rows that are set free, pages.
-#[derive(Clone, Copy)]
+#[derive(Clone, Copy, Default)]
 pub struct Growth {
     pub entries: u64,
     pub rows: u64,
@@ -41,6 +39,7 @@ fn with_chunk(n: Growth, h: Sizes, c: u64, o: Place, q: Place, dense: bool) -> G
 }
 
 // By the source's entries up to e, where it grows by n before that.
+#[tactic(auto, using(sums::proofs::Counts::count_next), unfolding(crate::specs::Judging::growth_to, unions::specs::Union::new_entry, unions::specs::Union::new_row, unions::specs::Union::freed_row, unions::specs::Union::new_page))]
 fn with_entry(
     rows: &[u32],
     table: &[u64],
@@ -63,27 +62,23 @@ fn with_entry(
 }
 
 // By all of the source's entries.
+#[tactic(auto, using(sums::proofs::Counts::count_zero), unfolding(crate::specs::Judging::growth_to))]
 fn grown(rows: &[u32], table: &[u64], h: Sizes, srows: &[u32], stable: &[u64], g: Sizes) -> Growth
     requires { Passed h rows.now table.now × Passed g srows.now stable.now }
-    ensures { OnAny rows.now table.now srows.now stable.now
+    ensures small { Small result }
+    ensures grown { OnAny rows.now table.now srows.now stable.now
         (λ (x y : Mem). result ≡ growth_to x y (source_entries y)) }
 {
     let n = g.d + head::over_count(stable);
-    let mut k = Growth {
-        entries: 0,
-        rows: 0,
-        freed: 0,
-        pages: 0,
-    };
-    let mut e: u64 = 0;
-    while e < n {
+    let mut k = Growth::default();
+    for e in 0..n {
         k = with_entry(rows, table, h, srows, stable, g, e, k);
-        e += 1;
     }
     k
 }
 
 // 6, 7, 8. A row that its chunk leaves for a page is free for another.
+#[tactic(auto, using(sums::proofs::Counts::count_le), unfolding(unions::specs::Union::judged, crate::specs::Judging::growth_to))]
 pub fn judge(
     rows: &[u32],
     table: &[u64],
@@ -91,20 +86,20 @@ pub fn judge(
     srows: &[u32],
     stable: &[u64],
     g: Sizes,
-) -> Outcome
+) -> Result<(), Refusal>
     requires { Passed h rows.now table.now × Passed g srows.now stable.now }
     ensures { OnAny rows.now table.now srows.now stable.now
         (λ (x y : Mem). result ≡ judged x y) }
 {
     let n = grown(rows, table, h, srows, stable, g);
     if h.v < head::over_count(table) + n.entries {
-        return Outcome::Refused(refusal::OVERFLOW_FULL);
+        return Err(Refusal::OverflowFull);
     }
-    if h.r < order::minus(owners::rows_owned(table, h) + n.rows, n.freed) {
-        return Outcome::Refused(refusal::ROWS_FULL);
+    if h.r < (owners::rows_owned(table, h) + n.rows).saturating_sub(n.freed) {
+        return Err(Refusal::RowsFull);
     }
     if h.p < owners::pages_owned(table, h) + n.pages {
-        return Outcome::Refused(refusal::PAGES_FULL);
+        return Err(Refusal::PagesFull);
     }
-    Outcome::Done
+    Ok(())
 }

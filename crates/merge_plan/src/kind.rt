@@ -12,6 +12,7 @@ use layout::head;
 use layout::place::Place;
 
 // How many members l offsets of row r and k offsets of the source's row i have together.
+#[tactic(auto, using(crate::proofs::Rows::row_lent))]
 fn rows_len(rows: &[u32], h: Sizes, r: u64, l: u64, srows: &[u32], g: Sizes, i: u64, k: u64) -> u64
     requires { Side h rows.now (Sparse r l) × Side g srows.now (Sparse i k) }
     ensures { result ≡ length (union (take l (row_part h rows.now r)) (take k (row_part g srows.now i))) }

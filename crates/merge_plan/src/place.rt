@@ -6,7 +6,6 @@ ghost use Rattle.layout.specs.Sizes.{header_at};
 ghost use Rattle.unions.specs.Union.{fits, fitted, standing, source};
 
 use document::sizes::Sizes;
-use layout::find::Word;
 use layout::place::Place;
 use layout::{entry, find, place};
 
@@ -24,24 +23,23 @@ fn fits(h: Sizes, q: Place) -> bool
 fn fitted(h: Sizes, q: Place) -> Place
     ensures { (result ≡ fitted h q) × (fits h result ≡ true) }
 {
-    if fits(h, q) {
-        return q;
-    }
-    Place::Absent
+    if fits(h, q) { q } else { Place::Absent }
 }
 
 // Chunk c of the destination, whatever its pools and its block counts hold.
+#[tactic(auto, unfolding(unions::specs::Union::standing))]
 pub fn standing(table: &[u64], h: Sizes, c: u64) -> Place
     requires { InRange h × (h ≡ header_at table.now) × (c < 2 ^ 62) }
     ensures { ((p r b : List ℕ) → result ≡ standing (mem p r b table.now) c) × (fits h result ≡ true) }
 {
     match find::word_of(table, c) {
-        Word::Is(w) => fitted(h, place::decode(w)),
-        Word::Bad => Place::Absent,
+        Ok(w) => fitted(h, place::decode(w)),
+        Err(_) => Place::Absent,
     }
 }
 
 // Entry e of the source, likewise.
+#[tactic(auto, unfolding(unions::specs::Union::source))]
 pub fn source(table: &[u64], g: Sizes, e: u64) -> Place
     requires { InRange g × (g ≡ header_at table.now) × (e ≤ 327680) }
     ensures { ((p r b : List ℕ) → result ≡ source (mem p r b table.now) e) × (fits g result ≡ true) }

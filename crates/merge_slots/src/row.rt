@@ -32,10 +32,9 @@ fn unite(row: &mut [u32], l: usize, other: &[u32], k: usize) -> usize
 {
     let mut both = [0u32; 2048];
     let n = sparse::union_sorted(&row[..l], &other[..k], &mut both);
-    if row.len() < n {
-        return n;
+    if n <= row.len() {
+        row[..n].copy_from_slice(&both[..n]);
     }
-    sparse::copy(&both, row, n);
     n
 }
 
@@ -46,8 +45,8 @@ pub fn copy(rows: &mut [u32], h: Sizes, r: u64, srows: &[u32], g: Sizes, i: u64,
         (copied (row_part g srows.now i) (row_part h rows.old r) k) }
 {
     let a = head::row_at(h, r) as usize;
-    let e = a + h.m as usize;
-    sparse::copy(part(srows, g, i), &mut rows[a..e], k as usize);
+    let n = k as usize;
+    rows[a..a + n].copy_from_slice(&part(srows, g, i)[..n]);
 }
 
 // Row r's l offsets become the union with the first k of the source's row i, where a row has room for them. Answers how many they are.

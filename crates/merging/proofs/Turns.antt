@@ -2,52 +2,25 @@
 use mathlib.Core.Path.{◌≡◌, sym, ap, subst, ◌∙◌}
 use mathlib.Core.Logic.{◌≢◌}
 use mathlib.Core.List.{List}
-use mathlib.Core.Bool.{true}
 use Prim.Native.Nat.{ℕ, ◌-◌, ◌*◌, ◌^◌, ◌≤◌, ◌<◌}
 use native.Mathlib.Omega.{arith}
 use lib.ListN.{length}
 use lib.Pow.{pow_mono}
 use Rattle.document.specs.Sizes.{InRange, last_chunk}
 use Rattle.document.specs.declared.sizes.Sizes.{Sizes}
-use Rattle.layout.specs.Mem.{Mem, mem}
-use Rattle.layout.specs.Sizes.{wide, header_at, head, rows_from, pages_from}
+use Rattle.layout.specs.Mem.{Mem}
+use Rattle.layout.specs.Sizes.{wide, head, rows_from, pages_from}
 use Rattle.layout.specs.Places.{row_owner, page_owner}
 use Rattle.layout.specs.Follows.{FullTo}
 use Rattle.layout.specs.Entries.{entries, chunk_at}
 use Rattle.layout.specs.Free.{first_free}
-use Rattle.layout.specs.declared.place.Place.{Place}
 use Rattle.layout.proofs.FirstFree.{found_full, same_found}
-use Rattle.unions.specs.Union.{fits, standing, source, densely, sparsely}
 use Rattle.unions.specs.Joinable.{Joinable}
 use Rattle.unions.proofs.Standing.{chunk_in}
 use Rattle.unions.proofs.Results.{same_s, same_m}
 use Rattle.unions.proofs.Onward.{Turned}
 use Rattle.merge_slots.specs.Pools.{PagePools, RowPools}
-use Rattle.merge_chunk.specs.Ready.{Turn}
-use Rattle.merge_chunk.specs.Effects.{Densely, Sparsely}
 use Rattle.merging.specs.Ready.{Entry}
-use Rattle.merging.specs.Effects.{DenseTurn, SparseTurn}
-
--- ---- the chunk of entry e
-
-module _ (h g : Sizes) (t st : List ℕ) (e : ℕ) (E : Entry h g t st e) (c : ℕ) (ec : c ≡ chunk_at g st e) (o q : Place) where
-  pub turn_ready : fits h o ≡ true → fits g q ≡ true → Turn h g t c o q
-  turn_ready a b = record { header = E.header; over = E.over; chunk = let i = E.chunk in omega arith; here = a; there = b }
-
-  module _ (so : (p r b : List ℕ) → o ≡ standing (mem p r b t) c) (sq : (p r b : List ℕ) → q ≡ source (mem p r b st) e) where
-    chunk_is : c ≡ chunk_at (header_at st) st e
-    chunk_is = ec ∙ ap (λ (d : Sizes). chunk_at d st e) E.source
-
-    here_is : (p r b : List ℕ) → o ≡ standing (mem p r b t) (chunk_at (header_at st) st e)
-    here_is p r b = so p r b ∙ ap (standing (mem p r b t)) chunk_is
-
-    pub dense_at : (ps rs ps' rs' t' sp sr : List ℕ) → Densely ps rs t ps' rs' t' sp sr g c o q → DenseTurn ps rs t ps' rs' t' sp sr st e
-    dense_at ps rs ps' rs' t' sp sr D b sb =
-        D b sb st E.source ∙ (λ j. densely (mem ps rs b t) (mem sp sr sb st) (chunk_is j) (here_is ps rs b j) (sq sp sr sb j))
-
-    pub sparse_at : (rs rs' t' sr : List ℕ) → Sparsely rs t rs' t' sr g c o q → SparseTurn rs t rs' t' sr st e
-    sparse_at rs rs' t' sr S p b sp sb =
-        S p b sp sb st E.source ∙ (λ j. sparsely (mem p rs b t) (mem sp sr sb st) (chunk_is j) (here_is p rs b j) (sq sp sr sb j))
 
 -- ---- on the way from x, with the source y: memory z
 
@@ -77,7 +50,7 @@ module _ {z y : Mem} (J : Joinable z y) (h g : Sizes) (eh : h ≡ head z) (eg : 
   }
 
   -- as many as the sizes have
-  pub entries_few : entries g y.table ≤ 327680
+  entries_few : entries g y.table ≤ 327680
   entries_few =
       let a = there.d_high in
       let b = J.there.over_fits in

@@ -7,7 +7,7 @@ ghost use Rattle.document.specs.Union.{merge_from, merge};
 ghost use Rattle.layout.specs.Mem.{mem};
 ghost use Rattle.contracts.specs.Does.{Joins};
 
-use document::answer::Outcome;
+use document::refusal::Refusal;
 use layout::head;
 use layout_writes::setup;
 use merge_plan::plan;
@@ -22,21 +22,17 @@ pub fn merge_from(
     srows: &[u32],
     sblocks: &[u32],
     stable: &[u64],
-) -> Outcome
+) -> Result<(), Refusal>
     ensures { let x = mem pages.old rows.old blocks.old table.old in
         let y = mem spages.now srows.now sblocks.now stable.now in
         let u = mem pages.new rows.new blocks.new table.new in
         Joins x y merge_from result u y }
 {
-    match plan::union_plan(
+    plan::union_plan(
         pages, rows, blocks, table, spages, srows, sblocks, stable, false,
-    ) {
-        Outcome::Refused(n) => Outcome::Refused(n),
-        Outcome::Done => {
-            pass::unite(pages, rows, table, spages, srows, stable);
-            Outcome::Done
-        }
-    }
+    )?;
+    pass::unite(pages, rows, table, spages, srows, stable);
+    Ok(())
 }
 
 // The same, and then the source is empty and open.
@@ -49,22 +45,18 @@ pub fn merge(
     srows: &mut [u32],
     sblocks: &mut [u32],
     stable: &mut [u64],
-) -> Outcome
+) -> Result<(), Refusal>
     ensures { let x = mem pages.old rows.old blocks.old table.old in
         let y = mem spages.old srows.old sblocks.old stable.old in
         let u = mem pages.new rows.new blocks.new table.new in
         let v = mem spages.new srows.new sblocks.new stable.new in
         Joins x y merge result u v }
 {
-    match plan::union_plan(
+    plan::union_plan(
         pages, rows, blocks, table, spages, srows, sblocks, stable, true,
-    ) {
-        Outcome::Refused(n) => Outcome::Refused(n),
-        Outcome::Done => {
-            pass::unite(pages, rows, table, spages, srows, stable);
-            let g = head::read(stable);
-            setup::make_fresh(g, spages, srows, sblocks, stable);
-            Outcome::Done
-        }
-    }
+    )?;
+    pass::unite(pages, rows, table, spages, srows, stable);
+    let g = head::read(stable);
+    setup::make_fresh(g, spages, srows, sblocks, stable);
+    Ok(())
 }

@@ -38,6 +38,7 @@ fn dense_turn(
 }
 
 // All entries. Pages are only taken, so that none below p is free again.
+#[tactic(auto, unfolding(unions::specs::Union::dense_to))]
 fn dense_pass(
     pages: &mut [u64],
     rows: &mut [u32],
@@ -55,11 +56,9 @@ fn dense_pass(
 {
     let n = g.d + head::over_count(stable);
     let mut p = owners::free_page(table, h);
-    let mut e: u64 = 0;
-    while e < n {
+    for e in 0..n {
         dense_turn(pages, rows, table, h, p, spages, srows, stable, g, e);
         p = owners::next_page(table, h, p);
-        e += 1;
     }
 }
 
@@ -86,6 +85,7 @@ fn sparse_turn(
 }
 
 // All entries. Rows are only taken now, so that none below r is free again.
+#[tactic(auto, unfolding(unions::specs::Union::sparse_to))]
 fn sparse_pass(
     rows: &mut [u32],
     table: &mut [u64],
@@ -100,15 +100,14 @@ fn sparse_pass(
 {
     let n = g.d + head::over_count(stable);
     let mut r = owners::free_row(table, h);
-    let mut e: u64 = 0;
-    while e < n {
+    for e in 0..n {
         sparse_turn(rows, table, h, r, srows, stable, g, e);
         r = owners::next_row(table, h, r);
-        e += 1;
     }
 }
 
 // Both passes, whatever the block counts are.
+#[tactic(auto, unfolding(unions::specs::Union::united_by))]
 pub fn unite(
     pages: &mut [u64],
     rows: &mut [u32],

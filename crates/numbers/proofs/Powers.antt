@@ -1,32 +1,19 @@
--- Laws of 2 ^ k as sizes use it: shifts that lose nothing, products that fit, and what a chunk of 2 ^ s ids has. Assumes nothing.
+-- Laws of 2 ^ k as sizes use it: shifts and products that fit, and what a chunk of 2 ^ s ids has. Assumes nothing.
 use mathlib.Core.Path.{◌≡◌, sym, ◌∙◌, ap}
-use Prim.Native.Nat.{ℕ, ◌-◌, ◌*◌, ◌/◌, ◌%◌, ◌^◌, ◌≤◌, ◌<◌}
-use native.Mathlib.Nat.{mul-le-mul, one-mul, lt_of_le_of_lt}
+use Prim.Native.Nat.{ℕ, ◌-◌, ◌*◌, ◌/◌, ◌^◌, ◌≤◌, ◌<◌}
+use native.Mathlib.Nat.{mul-le-mul}
 use native.Mathlib.Omega.{arith}
-use lib.Dec.{lit<}
-use lib.Pow.{pow_pos, pow_mono, pow-add, shl_exact}
-use mir.Syntax.{w64}
-use mir.Val.{Fits}
+use lib.Pow.{pow_pos, pow_mono, pow-add}
 
--- ---- shifts and products that lose nothing
-
--- 1 << k
-pub one_shl : (k : ℕ) → k < 64 → 1 * 2 ^ k % 2 ^ 64 ≡ 2 ^ k
-one_shl k h = shl_exact 1 k 64 (lit< tt) (omega arith) ∙ one-mul _
+-- ---- shifts and products that fit
 
 -- a slot number, shifted: small enough to add places to
 pub scaled_most : (x k : ℕ) → x ≤ 65536 → k < 32 → x * 2 ^ k ≤ 2 ^ 47
 scaled_most x k h l = mul-le-mul h (pow_mono {j = 31} (omega arith))
 
-pub scaled_below : (x k : ℕ) → x ≤ 65536 → k < 32 → x * 2 ^ k < 2 ^ 64
-scaled_below x k h l = lt_of_le_of_lt (scaled_most x k h l) (lit< tt)
-
 -- two sizes
 pub times_most : (x y : ℕ) → x ≤ 262144 → y ≤ 262144 → x * y ≤ 2 ^ 36
 times_most x y h l = mul-le-mul h l
-
-pub times_fits : (x y : ℕ) → x ≤ 262144 → y ≤ 262144 → Fits w64 (x * y)
-times_fits x y h l = record { fits = lt_of_le_of_lt (times_most x y h l) (lit< tt) }
 
 -- ---- parts of a chunk
 

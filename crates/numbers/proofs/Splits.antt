@@ -8,8 +8,7 @@ use lib.Pow.{split, shr_lt, pow_pos}
 use mir.Syntax.{w64}
 use mir.Val.{SFits, of_z, to_z}
 use Rattle.numbers.specs.Ids.{split_of, id_of, Lies}
-use Rattle.numbers.specs.declared.Split.{Split}
-use Rattle.numbers.specs.declared.Split.TheVariants.{At, Negative}
+use Rattle.std.specs.Prelude.{Option, Some, None}
 use Rattle.numbers.proofs.Powers.{pow_drop}
 use Rattle.numbers.proofs.Slots.{slot_less, slot_of, slot_place}
 use Rattle.numbers.proofs.Signs.{hop, pos_below}
@@ -35,21 +34,23 @@ id_below s c off h l m = rw (pow_drop s 63 h) at (slot_less (2 ^ s) c (2 ^ (63 -
 
 -- ---- ids
 
-pub split_lies : (s : ℕ) (z : ℤ) (c off : ℕ) → At c off ≡ split_of s z → Lies s z c off
+pub split_lies : (s : ℕ) (z : ℤ) (c off : ℕ) → Some (c, off) ≡ split_of s z → Lies s z c off
 split_lies s (pos n) c off e =
-    let p : c ≡ n / 2 ^ s = cc in
-    let q : off ≡ n % 2 ^ s = cc in
+    let e : (c, off) ≡ (n / 2 ^ s, n % 2 ^ s) = cc in
+    let p : c ≡ n / 2 ^ s = ap (λ (r : ℕ × ℕ). r.0) e in
+    let q : off ≡ n % 2 ^ s = ap (λ (r : ℕ × ℕ). r.1) e in
     record { id = ap pos (sym (id_split s n) ∙ ap₂ (id_of s) (sym p) (sym q)); within = rw q (offset_below s n) }
-split_lies s (negsuc n) c off e = absurd (let h : ◌≡◌ {A = ℕ} 0 1 = cc in omega arith)
+split_lies s (negsuc n) c off e = absurd cc
 
-pub lies_split : (s : ℕ) (z : ℤ) (c off : ℕ) → Lies s z c off → split_of s z ≡ At c off
-lies_split s z c off l = ap (split_of s) l.id ∙ ap₂ At (slot_of (2 ^ s) c off l.within) (slot_place (2 ^ s) c off l.within)
+pub lies_split : (s : ℕ) (z : ℤ) (c off : ℕ) → Lies s z c off → split_of s z ≡ Some (c, off)
+lies_split s z c off l = ap (split_of s) l.id ∙ ap₂ (λ (a b : ℕ). Some (a, b)) (slot_of (2 ^ s) c off l.within) (slot_place (2 ^ s) c off l.within)
 
 -- one chunk, one offset
 pub lies_once : (s : ℕ) (z : ℤ) (c off d at : ℕ) → Lies s z c off → Lies s z d at → (c ≡ d) × (off ≡ at)
 lies_once s z c off d at l m =
-    let e : At c off ≡ At d at = sym (lies_split s z c off l) ∙ lies_split s z d at m in
-    (cc, cc)
+    let e : Some (c, off) ≡ Some (d, at) = sym (lies_split s z c off l) ∙ lies_split s z d at m in
+    let q : (c, off) ≡ (d, at) = cc in
+    (ap (λ (r : ℕ × ℕ). r.0) q, ap (λ (r : ℕ × ℕ). r.1) q)
 
 pub lies_below : (s : ℕ) (z : ℤ) (c off : ℕ) → s ≤ 63 → SFits w64 z → Lies s z c off → c < 2 ^ (63 - s)
 lies_below s z c off h f l =
@@ -57,19 +58,19 @@ lies_below s z c off h f l =
 
 -- ---- what a caller of `split` knows: any statement on the id goes by its two answers
 
-negative_is : (s : ℕ) (P : ℤ → Type 0) (z : ℤ) → Negative ≡ split_of s z → ((k : ℕ) → P (negsuc k)) → P z
-negative_is s P (pos m) e h = absurd (let h : ◌≡◌ {A = ℕ} 0 1 = cc in omega arith)
+negative_is : (s : ℕ) (P : ℤ → Type 0) (z : ℤ) → None ≡ split_of s z → ((k : ℕ) → P (negsuc k)) → P z
+negative_is s P (pos m) e h = absurd cc
 negative_is s P (negsuc k) e h = h k
 
-module _ (s : ℕ) (z : ℤ) (f : SFits w64 z) (r : Split) (e : r ≡ split_of s (to_z w64 (of_z w64 z))) where
-  pub of_negative : (P : ℤ → Type 0) → r ≡ Negative → ((k : ℕ) → P (negsuc k)) → P z
+module _ (s : ℕ) (z : ℤ) (f : SFits w64 z) (r : Option (ℕ × ℕ)) (e : r ≡ split_of s (to_z w64 (of_z w64 z))) where
+  pub of_negative : (P : ℤ → Type 0) → r ≡ None → ((k : ℕ) → P (negsuc k)) → P z
   of_negative P q h = negative_is s P z (sym q ∙ e ∙ hop (split_of s) z f) h
 
-  pub at_lies : (c off : ℕ) → r ≡ At c off → Lies s z c off
+  pub at_lies : (c off : ℕ) → r ≡ Some (c, off) → Lies s z c off
   at_lies c off q = split_lies s z c off (sym q ∙ e ∙ hop (split_of s) z f)
 
-  pub of_at : (P : ℤ → Type 0) (c off : ℕ) → r ≡ At c off → P (pos (id_of s c off)) → P z
+  pub of_at : (P : ℤ → Type 0) (c off : ℕ) → r ≡ Some (c, off) → P (pos (id_of s c off)) → P z
   of_at P c off q p = subst P (sym (at_lies c off q).id) p
 
-  pub at_below : (c off : ℕ) → s ≤ 63 → r ≡ At c off → c < 2 ^ (63 - s)
+  pub at_below : (c off : ℕ) → s ≤ 63 → r ≡ Some (c, off) → c < 2 ^ (63 - s)
   at_below c off h q = lies_below s z c off h f (at_lies c off q)

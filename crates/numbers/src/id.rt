@@ -2,25 +2,22 @@
 ghost use Rattle.std.specs.Prelude.{◌≡◌, ◌^◌, ◌<◌, pos};
 ghost use Rattle.numbers.specs.Ids.{natural_of, split_of, chunk_of};
 
-use crate::{Natural, Split, power};
+use crate::power;
 
 // 2 ^ 63: every id is below it.
-pub const LIMIT: u64 = 9223372036854775808;
+pub const LIMIT: u64 = 1 << 63;
 
 // 2 ^ 63 - 1: the largest id.
 pub const LARGEST: u64 = LIMIT - 1;
 
 // The smallest i64.
-pub const SMALLEST: i64 = -9223372036854775808;
+pub const SMALLEST: i64 = i64::MIN;
 
 // The one place where an id's sign is looked at.
-pub fn natural(id: i64) -> Natural
+pub fn natural(id: i64) -> Option<u64>
     ensures { result ≡ natural_of id }
 {
-    if id < 0 {
-        return Natural::Negative;
-    }
-    Natural::At(id as u64)
+    u64::try_from(id).ok()
 }
 
 // A number back to an id.
@@ -31,24 +28,19 @@ pub fn signed(n: u64) -> i64
     n as i64
 }
 
-// Chunks have 2 ^ s ids.
-pub fn split(id: i64, s: u64) -> Split
+// The chunk that an id lives in and its offset there, or none for a negative one. Chunks have 2 ^ s ids.
+pub fn split(id: i64, s: u64) -> Option<(u64, u64)>
     requires { s < 64 }
     ensures { result ≡ split_of s id }
 {
-    match natural(id) {
-        Natural::Negative => Split::Negative,
-        Natural::At(n) => Split::At(power::high(n, s), power::low(n, s)),
-    }
+    let n = natural(id)?;
+    Some((power::high(n, s), power::low(n, s)))
 }
 
-// The chunk that an id lives in, or none for a negative one.
-pub fn chunk_of(id: i64, s: u64) -> Natural
+// The chunk alone.
+pub fn chunk_of(id: i64, s: u64) -> Option<u64>
     requires { s < 64 }
     ensures { result ≡ chunk_of s id }
 {
-    match natural(id) {
-        Natural::Negative => Natural::Negative,
-        Natural::At(n) => Natural::At(power::high(n, s)),
-    }
+    Some(power::high(natural(id)?, s))
 }

@@ -1,4 +1,4 @@
-// Powers of two and small products, each said once so that nothing above shifts by hand.
+// Powers of two and small products, each said once: the contracts carry the laws, so that nothing above shifts by hand.
 ghost use Rattle.std.specs.Prelude.{◌≡◌, ◌*◌, ◌/◌, ◌%◌, ◌^◌, ◌<◌, ◌≤◌};
 
 // 2 ^ k: the ids of a chunk, the words or the blocks of a page.

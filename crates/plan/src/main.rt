@@ -2,13 +2,14 @@
 // A proved loop has to end, so reads are counted up to a number that no run reaches. A read that fails ends the program without output.
 #![tactic(auto)]
 
+use document::plan::Plan;
 use intake::input;
-use program::Said;
+use program::Fault;
 use std::io;
 use std::io::{Read, Stdout, Write};
 
 // What is said, line by line.
-fn write(out: &mut Stdout, said: Said, c: &[i64]) -> io::Result<()> {
+fn write(out: &mut Stdout, said: Result<Plan, Fault>, c: &[i64]) -> io::Result<()> {
     let mut line = [0u8; 105];
     let n = texts::first(said, &mut line);
     out.write_all(&line[..n])?;

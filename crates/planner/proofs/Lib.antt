@@ -1,3 +1,2 @@
-pub mod Ways
 pub mod Whole
 pub mod Written

@@ -2,7 +2,7 @@
 use mathlib.Core.Path.{◌≡◌, refl, sym, ◌∙◌, ap, subst}
 use mathlib.Core.Bool.{Bool, true, false, cond}
 use mathlib.Core.List.{List}
-use native.Mathlib.Omega.{arith}
+use borrow.Author.Rules.{rules}
 use Prim.Native.Nat.{ℕ}
 use lib.IntN.{ℤ}
 use Rattle.document.specs.State.{State, empty}
@@ -10,8 +10,6 @@ use Rattle.document.specs.Sizes.{InRange}
 use Rattle.document.specs.Calls.{rank_up}
 use Rattle.document.specs.Answers.{in_mode, rank_up_answer}
 use Rattle.document.specs.Plan.{PlansFor}
-use Rattle.document.specs.declared.answer.Outcome.{Outcome}
-use Rattle.document.specs.declared.answer.Outcome.TheVariants as outcome
 use Rattle.layout.specs.Mem.{Mem}
 use Rattle.layout.specs.Sizes.{RoomIn}
 use Rattle.layout.specs.SetUp.{set_up_by}
@@ -22,22 +20,25 @@ use Rattle.cuts.specs.Plan.{plan_by}
 use Rattle.cuts.proofs.Plans.{plans_by}
 use Rattle.program.specs.Turns.{Run, run_all}
 use Rattle.program.specs.Reader.{together, fed, feed_parts, finished}
-use Rattle.program.specs.declared.Ended.{Ended}
-use Rattle.program.specs.declared.Ended.TheVariants as ended
 use Rattle.program.proofs.Inputs.{reads_parts}
 use Rattle.intake.specs.Puts.{sizes, put_by, start_of, started}
 use Rattle.intake.proofs.Turns.{Stands, outcome_is, input_stands, stays_open}
 use Rattle.planner.specs.Tells.{ranked_said, plan_said, end_said, run_said, program_told, SaysPlan, EndSays, program_run, ProgramSays}
+use Rattle.document.specs.Refusals.{is_ranked}
+use Rattle.document.specs.Results.{Outcome}
+use Rattle.program.specs.Faults.{Ended}
+use Rattle.program.specs.declared.Fault.TheVariants.{Line, Call}
+use Rattle.std.specs.Prelude.{Err, Ok}
 
 -- ---- planning comes last
 
 module _ (x : Mem) (q : State) (w : Stands x q) (o : q.mode ≡ false) (bs : List ℤ) where
-  ranks : (rank_up_by x).answer ≡ outcome.Done
+  ranks : (rank_up_by x).answer ≡ Ok tt
   unfolding rank_up_answer
   ranks =
       outcome_is ((does x rank_up tt refl).says w.0).said
       ∙ ap rank_up_answer w.1
-      ∙ ap (λ (b : Bool). cond b (outcome.Refused 4) outcome.Done) o
+      ∙ ap (λ (b : Bool). cond b (Err is_ranked) (Ok tt)) o
 
   ranked : Stands (rank_up_by x).after (in_mode q true)
   ranked =
@@ -58,27 +59,17 @@ module _ (x : Mem) (q : State) (w : Stands x q) (o : q.mode ≡ false) (bs : Lis
       })
 
   end_says : (e : Ended) → EndSays e q bs (end_said e x bs).says (end_said e x bs).bounds
-  end_says (ended.Whole s) = plan_says s
-  end_says (ended.Bad n) = (refl, refl)
-  end_says (ended.Refused c) = (refl, refl)
+  end_says (Ok s) = plan_says s
+  end_says (Err (Line n)) = (refl, refl)
+  end_says (Err (Call c)) = (refl, refl)
 
 -- ---- all of it
 
 in_range : InRange sizes
-in_range =
-    record {
-      s_low = omega arith;
-      s_high = omega arith;
-      m_low = omega arith;
-      m_high = omega arith;
-      d_high = omega arith;
-      v_high = omega arith;
-      r_high = omega arith;
-      p_high = omega arith;
-    }
+in_range = search rules
 
 module _ (x : Mem) (room : RoomIn sizes x) (parts : List (List ℕ)) (bs : List ℤ) where
-  made : ((set_up_by sizes x).answer ≡ outcome.Done) × Stands (set_up_by sizes x).after (empty sizes)
+  made : ((set_up_by sizes x).answer ≡ Ok tt) × Stands (set_up_by sizes x).after (empty sizes)
   made = let m = (sets_up sizes x refl).made in_range room in (m.0, (m.1, m.2))
 
   by_lines : finished put_by (feed_parts put_by (started (set_up_by sizes x)) parts) ≡ run_all put_by (set_up_by sizes x).after (together parts)

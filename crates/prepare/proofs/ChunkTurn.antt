@@ -3,23 +3,23 @@ use mathlib.Core.Path.{◌≡◌, sym, ◌∙◌, ap, subst}
 use mathlib.Core.List.{List}
 use mathlib.Core.Bool.{false}
 use Prim.Native.Nat.{ℕ, ◌<◌}
-use native.Mathlib.Omega.{arith}
 use Rattle.layout.specs.Places.{decoded, has_page}
 use Rattle.layout.specs.Entries.{word_of, place_of}
 use Rattle.layout.specs.Short.{word_in}
 use Rattle.document.specs.declared.sizes.Sizes.{Sizes}
 use Rattle.layout.specs.declared.place.Place.{Place}
-use Rattle.layout.specs.declared.find.Word.{Word}
-use Rattle.layout.specs.declared.find.Word.TheVariants as word
 use Rattle.prepare.specs.Ready.{RowInside}
+use Rattle.layout.specs.Found.{Word}
+use Rattle.std.specs.Prelude.{Err, Ok}
+use Rattle.document.specs.declared.refusal.Refusal.{Refusal}
 
 -- ---- the word that is found
 
-module _ (h : Sizes) (t : List ℕ) (c : ℕ) (has : word_in t c ≡ word.Is (word_of h t c)) (r : Word) (is : r ≡ word_in t c) where
-  pub never_bad : r ≡ word.Bad → ⊥
-  never_bad e = let z : ◌≡◌ {A = ℕ} 0 1 = cc in omega arith
+module _ (h : Sizes) (t : List ℕ) (c : ℕ) (has : word_in t c ≡ Ok (word_of h t c)) (r : Word) (is : r ≡ word_in t c) where
+  pub never_bad : (n : Refusal) → r ≡ Err n → ⊥
+  never_bad n e = absurd cc
 
-  pub place_is : (w : ℕ) (p q : Place) → r ≡ word.Is w → p ≡ decoded w → p ≡ q → q ≡ place_of h t c
+  pub place_is : (w : ℕ) (p q : Place) → r ≡ Ok w → p ≡ decoded w → p ≡ q → q ≡ place_of h t c
   place_is w p q e f g = sym g ∙ f ∙ ap decoded (let i : w ≡ word_of h t c = cc in i)
 
 -- page p is there for a place that is not dense

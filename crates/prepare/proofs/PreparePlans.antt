@@ -14,8 +14,6 @@ use borrow.Author.Tests.{eq-eqb, ne_eqb, lt-ltb, le-ltb, ltb-false}
 use Rattle.numbers.specs.Ids.{chunk_of}
 use Rattle.numbers.proofs.Signs.{pos_below}
 use Rattle.numbers.proofs.Splits as splits
-use Rattle.numbers.specs.declared.Natural.{Natural}
-use Rattle.numbers.specs.declared.Natural.TheVariants as natural
 use Rattle.sums.specs.Ids.{count}
 use Rattle.sums.proofs.Counts.{count_next}
 use Rattle.layout.specs.Mem.{Mem, mem}
@@ -28,8 +26,6 @@ use Rattle.layout.specs.Tests.{Walked, walked}
 use Rattle.layout.specs.SetUp.{Did, did}
 use Rattle.document.specs.declared.sizes.Sizes.{Sizes}
 use Rattle.layout.specs.declared.place.Place.{Place}
-use Rattle.document.specs.declared.answer.Outcome.{Outcome}
-use Rattle.document.specs.declared.answer.Outcome.TheVariants.{Done, Refused}
 use Rattle.layout.proofs.Tests.{walked_of}
 use Rattle.layout_laws.proofs.Walked.{walked_beside}
 use Rattle.calls.specs.Prepare.{densed_to, over_needed, pages_needed, prepare_id, prepare_by}
@@ -39,8 +35,10 @@ use Rattle.contracts.specs.Does.{Does}
 use Rattle.contracts.proofs.Steps.{does}
 use Rattle.prepare.specs.PreparePlan.{plan_to, plan_id, plan_prepare}
 use Rattle.prepare.specs.Ready.{Sound}
-use Rattle.prepare.specs.declared.plan.Preparation.{Preparation}
-use Rattle.prepare.specs.declared.plan.Preparation.TheVariants.{Refuse, Nothing, Make}
+use Rattle.document.specs.Refusals.{is_ranked, not_laid_out, overflow_full, pages_full}
+use Rattle.document.specs.Results.{Outcome}
+use Rattle.document.specs.declared.refusal.Refusal.{Refusal}
+use Rattle.std.specs.Prelude.{Err, None, Ok, Option, Result, Some, ℕ}
 
 -- ---- what is needed
 
@@ -64,11 +62,11 @@ module _ (h : Sizes) (t : List ℕ) (c : ℕ) where
 
   -- ---- 6 before 8
 
-  by : Bool → Bool → Preparation
-  by a b = cond a (Refuse 6) (cond b (Refuse 8) (Make c))
+  by : Bool → Bool → (Result (Option ℕ) Refusal)
+  by a b = cond a (Err overflow_full) (cond b (Err pages_full) (Ok (Some c)))
 
   module _ (v : ℕ) (ev : v ≡ over_needed h t c) where
-    pub judge_six : h.v < v → Refuse 6 ≡ plan_to h t c
+    pub judge_six : h.v < v → Err overflow_full ≡ plan_to h t c
     unfolding plan_to by
     judge_six l = ap (λ (a : Bool). by a (ltb h.p (pages_needed h t c))) (sym (ap (ltb h.v) (sym ev) ∙ lt-ltb h.v v l))
 
@@ -76,30 +74,30 @@ module _ (h : Sizes) (t : List ℕ) (c : ℕ) where
       not_six : ltb h.v (over_needed h t c) ≡ false
       not_six = ap (ltb h.v) (sym ev) ∙ le-ltb h.v v l
 
-      pub judge_eight : h.p < p → Refuse 8 ≡ plan_to h t c
+      pub judge_eight : h.p < p → Err pages_full ≡ plan_to h t c
       unfolding plan_to by
       judge_eight m = ap₂ by (sym not_six) (sym (ap (ltb h.p) (sym ep) ∙ lt-ltb h.p p m))
 
-      pub judge_make : p ≤ h.p → Make c ≡ plan_to h t c
+      pub judge_make : p ≤ h.p → Ok (Some c) ≡ plan_to h t c
       unfolding plan_to by
       judge_make m = ap₂ by (sym not_six) (sym (ap (ltb h.p) (sym ep) ∙ le-ltb h.p p m))
 
 -- ---- 3, then 4
 
-abbrev pub by_chunk : Sizes → Mem → Natural → Preparation
-by_chunk h x (natural.At c) = plan_to h x.table c
-by_chunk h x natural.Negative = Nothing
+abbrev pub by_chunk : Sizes → Mem → (Option ℕ) → (Result (Option ℕ) Refusal)
+by_chunk h x (Some c) = plan_to h x.table c
+by_chunk h x None = Ok None
 
 module _ (x : Mem) (z : ℤ) (a : Bool) (ea : a ≡ walked x) where
-  gate : Bool → Bool → Preparation
-  gate i j = cond i (cond j (Refuse 4) (plan_id x z)) (Refuse 3)
+  gate : Bool → Bool → (Result (Option ℕ) Refusal)
+  gate i j = cond i (cond j (Err is_ranked) (plan_id x z)) (Err not_laid_out)
 
-  pub plan_three : a ≡ false → Refuse 3 ≡ plan_prepare x z
+  pub plan_three : a ≡ false → Err not_laid_out ≡ plan_prepare x z
   unfolding plan_prepare gate
   plan_three e = ap (λ (i : Bool). gate i (eqb (mode_at x.table) 1)) (sym e ∙ ea)
 
   module _ (ok : a ≡ true) (m : ℕ) (em : m ≡ mode_at x.table) where
-    pub plan_four : m ≡ 1 → Refuse 4 ≡ plan_prepare x z
+    pub plan_four : m ≡ 1 → Err is_ranked ≡ plan_prepare x z
     unfolding plan_prepare gate
     plan_four e = ap₂ gate (sym ok ∙ ea) (sym (ap (λ (i : ℕ). eqb i 1) (sym em) ∙ eq-eqb m 1 e))
 
@@ -123,11 +121,11 @@ module _ (x : Mem) (z : ℤ) (a : Bool) (ea : a ≡ walked x) where
         chunk_plan (pos n) = ap (λ (k : Sizes). plan_to k x.table (n / top k)) eh
         chunk_plan (negsuc n) = refl
 
-        pub plan_natural : (q : Natural) → q ≡ chunk_of h.s z → by_chunk h x q ≡ plan_prepare x z
+        pub plan_natural : (q : (Option ℕ)) → q ≡ chunk_of h.s z → by_chunk h x q ≡ plan_prepare x z
         plan_natural q e = ap (by_chunk h x) e ∙ chunk_plan z ∙ plan_open
 
 -- a chunk id is far below 2^62
-pub chunk_small : (s : ℕ) (z : ℤ) (c : ℕ) → 9 ≤ s → s ≤ 25 → SFits w64 z → natural.At c ≡ chunk_of s z → c < 2 ^ 62
+pub chunk_small : (s : ℕ) (z : ℤ) (c : ℕ) → 9 ≤ s → s ≤ 25 → SFits w64 z → Some c ≡ chunk_of s z → c < 2 ^ 62
 chunk_small s (pos n) c low high f e =
     let q : c ≡ n / 2 ^ s = cc in
     let l = splits.chunk_below s n (omega arith) (pos_below n f) in
@@ -137,23 +135,23 @@ chunk_small s (negsuc n) c low high f e = absurd (let g : ◌≡◌ {A = ℕ} 0 
 
 -- ---- carried out
 
-abbrev pub carried_out : Mem → Preparation → Did
-carried_out x (Refuse n) = did (Refused n) x
-carried_out x Nothing = did Done x
-carried_out x (Make c) = did Done (densed_to (head x) x (c + 1))
+abbrev pub carried_out : Mem → (Result (Option ℕ) Refusal) → Did
+carried_out x (Err n) = did (Err n) x
+carried_out x (Ok None) = did (Ok tt) x
+carried_out x (Ok (Some c)) = did (Ok tt) (densed_to (head x) x (c + 1))
 
 carried_out_law : (x : Mem) (z : ℤ) → carried_out x (plan_prepare x z) ≡ prepare_by x z
 unfolding plan_prepare plan_to prepare_by
 carried_out_law x z = go (walked x) (eqb (mode_at x.table) 1) z
   where
-    pick : (a b : Bool) (c : ℕ) → carried_out x (cond a (Refuse 6) (cond b (Refuse 8) (Make c)))
-        ≡ cond a (did (Refused 6) x) (cond b (did (Refused 8) x) (did Done (densed_to (head x) x (c + 1))))
+    pick : (a b : Bool) (c : ℕ) → carried_out x (cond a (Err overflow_full) (cond b (Err pages_full) (Ok (Some c))))
+        ≡ cond a (did (Err overflow_full) x) (cond b (did (Err pages_full) x) (did (Ok tt) (densed_to (head x) x (c + 1))))
     pick true b c = refl
     pick false true c = refl
     pick false false c = refl
 
-    go : (a b : Bool) (w : ℤ) → carried_out x (cond a (cond b (Refuse 4) (plan_id x w)) (Refuse 3))
-        ≡ cond a (cond b (did (Refused 4) x) (prepare_id x w)) (did (Refused 3) x)
+    go : (a b : Bool) (w : ℤ) → carried_out x (cond a (cond b (Err is_ranked) (plan_id x w)) (Err not_laid_out))
+        ≡ cond a (cond b (did (Err is_ranked) x) (prepare_id x w)) (did (Err not_laid_out) x)
     go false b w = refl
     go true true w = refl
     go true false (pos n) =
@@ -162,7 +160,7 @@ carried_out_law x z = go (walked x) (eqb (mode_at x.table) 1) z
     go true false (negsuc n) = refl
 
 -- a plan that was made, carried out
-pub plan_carried : (x : Mem) (z : ℤ) (q r : Preparation) → q ≡ plan_prepare x z → q ≡ r → carried_out x r ≡ prepare_by x z
+pub plan_carried : (x : Mem) (z : ℤ) (q r : Result (Option ℕ) Refusal) → q ≡ plan_prepare x z → q ≡ r → carried_out x r ≡ prepare_by x z
 plan_carried x z q r e f = ap (carried_out x) (sym f ∙ e) ∙ carried_out_law x z
 
 -- what the contract prepare_does of it
@@ -171,27 +169,27 @@ prepare_does x z f e = does x (prepare z) f (ap by_outcome e)
 
 -- ---- a plan to make chunks dense stands on the walk and on room
 
-not_make : (n c : ℕ) → Refuse n ≡ Make c → ⊥
-not_make n c e = let z : ◌≡◌ {A = ℕ} 0 1 = cc in omega arith
+not_make : (n : Refusal) (c : ℕ) → ◌≡◌ {A = Result (Option ℕ) Refusal} (Err n) (Ok (Some c)) → ⊥
+not_make n c e = absurd cc
 
-not_nothing : (c : ℕ) → Nothing ≡ Make c → ⊥
-not_nothing c e = let z : ◌≡◌ {A = ℕ} 0 1 = cc in omega arith
+not_nothing : (c : ℕ) → ◌≡◌ {A = Result (Option ℕ) Refusal} (Ok None) (Ok (Some c)) → ⊥
+not_nothing c e = absurd cc
 
-gate_made : (a b : Bool) (p : Preparation) (c : ℕ) → cond a (cond b (Refuse 4) p) (Refuse 3) ≡ Make c → (a ≡ true) × (b ≡ false) × (p ≡ Make c)
-gate_made true true p c e = absurd (not_make 4 c e)
+gate_made : (a b : Bool) (p : Result (Option ℕ) Refusal) (c : ℕ) → cond a (cond b (Err is_ranked) p) (Err not_laid_out) ≡ Ok (Some c) → (a ≡ true) × (b ≡ false) × (p ≡ Ok (Some c))
+gate_made true true p c e = absurd (not_make is_ranked c e)
 gate_made true false p c e = (refl, refl, e)
-gate_made false b p c e = absurd (not_make 3 c e)
+gate_made false b p c e = absurd (not_make not_laid_out c e)
 
-pick_made : (a b : Bool) (k c : ℕ) → cond a (Refuse 6) (cond b (Refuse 8) (Make k)) ≡ Make c → (a ≡ false) × (b ≡ false) × (k ≡ c)
-pick_made true b k c e = absurd (not_make 6 c e)
-pick_made false true k c e = absurd (not_make 8 c e)
+pick_made : (a b : Bool) (k c : ℕ) → cond a (Err overflow_full) (cond b (Err pages_full) (Ok (Some k))) ≡ Ok (Some c) → (a ≡ false) × (b ≡ false) × (k ≡ c)
+pick_made true b k c e = absurd (not_make overflow_full c e)
+pick_made false true k c e = absurd (not_make pages_full c e)
 pick_made false false k c e = (refl, refl, cc)
 
 -- what was judged
 abbrev Fits : Mem → ℕ → Type 0
 Fits x c = (over_needed (head x) x.table c ≤ (head x).v) × (pages_needed (head x) x.table c ≤ (head x).p)
 
-id_made : (x : Mem) (z : ℤ) (c : ℕ) → plan_id x z ≡ Make c → Fits x c
+id_made : (x : Mem) (z : ℤ) (c : ℕ) → plan_id x z ≡ Ok (Some c) → Fits x c
 unfolding plan_to
 id_made x (pos n) c e =
     let k = n / top (head x) in
@@ -203,7 +201,7 @@ id_made x (negsuc n) c e = absurd (not_nothing c e)
 room_beside : (x : Mem) → Walked x (head x) → (b : List ℕ) → (head x).p * blocks_of (head x) ≤ length b → RoomIn (head x) (mem x.pages x.rows b x.table)
 room_beside x W b l = let r = W.room in record { in_pages = r.in_pages; in_rows = r.in_rows; in_blocks = l; in_table = r.in_table }
 
-pub made_sound : (x : Mem) (z : ℤ) (q : Preparation) (c : ℕ) → q ≡ plan_prepare x z → q ≡ Make c → Sound x.pages x.rows x.table c
+pub made_sound : (x : Mem) (z : ℤ) (q : Result (Option ℕ) Refusal) (c : ℕ) → q ≡ plan_prepare x z → q ≡ Ok (Some c) → Sound x.pages x.rows x.table c
 unfolding plan_prepare
 made_sound x z q c e f =
     let g = gate_made (walked x) (eqb (mode_at x.table) 1) (plan_id x z) c (sym e ∙ f) in

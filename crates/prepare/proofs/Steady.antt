@@ -17,7 +17,7 @@ use Rattle.layout.specs.declared.place.Place.{Place}
 use Rattle.layout.specs.declared.place.Place.TheVariants.{Absent, Sparse, Dense}
 use Rattle.layout_laws.proofs.Short.{word_in_is, owned_of}
 use Rattle.layout.specs.Free.{first_free, free_page_in}
-use Rattle.calls.specs.Prepare.{lowest_page, into_page, densed, densed_to, HasRoom}
+use Rattle.calls.specs.Prepare.{lowest_page, into_page, densed, densed_to, HasRoom, pages_needed}
 use Rattle.layout.proofs.FirstFree.{found_full, same_found}
 use Rattle.calls.proofs.Reached.{Reached, place_free, reached_more, turn_owner}
 use Rattle.calls.proofs.PreparedDense.{room_far, room_over, room_pages, room_reached}
@@ -90,6 +90,11 @@ has_room ps rs t c ok =
 
 pub sound_range : (ps rs t : List ℕ) (c : ℕ) → Sound ps rs t c → InRange (header_at t)
 sound_range ps rs t c ok = (has_room ps rs t c ok).walks.sizes
+
+-- each of chunks 0 to c needs a page
+pub sound_few : (ps rs t : List ℕ) (c : ℕ) → Sound ps rs t c → c + 1 ≤ 65536
+unfolding pages_needed
+sound_few ps rs t c ok = let r = has_room ps rs t c ok in omega (arith, r.pages, r.walks.sizes.p_high)
 
 -- after the turns of chunks 0 to i - 1, with p the lowest free page
 pub record Underway (h : Sizes) (ps₀ rs₀ t₀ : List ℕ) (c : ℕ) (ps rs t : List ℕ) (p i : ℕ) : Type 0 where

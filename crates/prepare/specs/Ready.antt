@@ -1,5 +1,5 @@
 -- What the loop and each of its turns ask for: parts of the pools that lie inside them.
-use Rattle.std.specs.Prelude.{◌≡◌, List, false, ℕ, ◌*◌, ◌^◌, ◌≤◌, ◌<◌, length}
+use Rattle.std.specs.Prelude.{◌≡◌, List, false, ℕ, ◌*◌, ◌^◌, ◌≤◌, ◌<◌, length, Ok}
 use Rattle.layout.specs.Mem.{mem}
 use Rattle.document.specs.Sizes.{InRange}
 use Rattle.layout.specs.Sizes.{wide, blocks_of, header_at, over_count}
@@ -10,7 +10,6 @@ use Rattle.calls.specs.Prepare.{HasRoom}
 use Rattle.document.specs.declared.sizes.Sizes.{Sizes}
 use Rattle.layout.specs.declared.place.Place.{Place}
 use Rattle.layout.specs.declared.place.Place.TheVariants.{Absent, Sparse, Dense}
-use Rattle.layout.specs.declared.find.Word.TheVariants.{Is}
 
 -- the walk passed and there is room for chunks 0 to c dense, beside block counts that are long enough
 abbrev pub Sound : List ℕ → List ℕ → List ℕ → ℕ → Type 0
@@ -29,6 +28,6 @@ pub record Turnable (h : Sizes) (pages rows t : List ℕ) (c p : ℕ) : Type 0 w
   pub in_rows : h.r * h.m ≤ length rows
   pub over : over_count t ≤ 65536
   pub chunk : c < 2 ^ 62
-  pub word : word_in t c ≡ Is (word_of h t c)
+  pub word : word_in t c ≡ Ok (word_of h t c)
   pub row : RowInside h (place_of h t c)
   pub page : has_page (place_of h t c) ≡ false → p < h.p

@@ -8,8 +8,7 @@ ghost use Rattle.layout.specs.Mem.{mem};
 ghost use Rattle.document.specs.Calls.{prepare, that};
 ghost use Rattle.contracts.specs.Does.{Does};
 
-use crate::plan::Preparation;
-use document::answer::Outcome;
+use document::refusal::Refusal;
 
 // Chunks 0 to the maximum's become dense, with the members that they have; or 3, 4, 6, 8 and nothing is changed.
 pub fn pre_allocate(
@@ -18,17 +17,16 @@ pub fn pre_allocate(
     blocks: &mut [u32],
     table: &mut [u64],
     max_id: i64,
-) -> Outcome
+) -> Result<(), Refusal>
     ensures { let x = mem pages.old rows.old blocks.old table.old in
         let y = mem pages.new rows.new blocks.new table.new in
         Does x (prepare max_id) (that result) y }
 {
-    match plan::plan_for(pages, rows, blocks, table, max_id) {
-        Preparation::Refuse(n) => Outcome::Refused(n),
-        Preparation::Nothing => Outcome::Done,
-        Preparation::Make(c) => {
+    match plan::plan_for(pages, rows, blocks, table, max_id)? {
+        None => Ok(()),
+        Some(c) => {
             write::make_all(pages, rows, table, c);
-            Outcome::Done
+            Ok(())
         }
     }
 }

@@ -7,7 +7,6 @@ ghost use Rattle.calls.specs.Prepare.{into_page, densed_to};
 ghost use Rattle.prepare.specs.Ready.{Sound, Turnable};
 
 use document::sizes::Sizes;
-use layout::find::Word;
 use layout::place::Place;
 use layout::{find, head, place};
 use layout_walk::owners;
@@ -19,7 +18,7 @@ pub fn make_dense(pages: &mut [u64], rows: &mut [u32], table: &mut [u64], h: Siz
     ensures { (bs : List ℕ) → mem pages.new rows.new bs table.new
         ≡ into_page h (mem pages.old rows.old bs table.old) c p (place_of h table.old c) }
 {
-    let Word::Is(w) = find::word_of(table, c) else {
+    let Ok(w) = find::word_of(table, c) else {
         return;
     };
     match place::decode(w) {
@@ -37,10 +36,8 @@ pub fn make_all(pages: &mut [u64], rows: &mut [u32], table: &mut [u64], c: u64)
 {
     let h = head::read(table);
     let mut p = owners::free_page(table, h);
-    let mut i: u64 = 0;
-    while i <= c {
+    for i in 0..c + 1 {
         make_dense(pages, rows, table, h, i, p);
         p = owners::next_page(table, h, p);
-        i += 1;
     }
 }

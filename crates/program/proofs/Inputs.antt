@@ -7,22 +7,18 @@ use lib.Dec.{eqb}
 use lib.IntN.{ℤ}
 use Rattle.lines.specs.Line.{size_line, id_line}
 use Rattle.lines.specs.Reader.{next, read_from, line_of, size_in, id_in}
-use Rattle.lines.specs.declared.Id.{Id}
-use Rattle.lines.specs.declared.Id.TheVariants as id
 use Rattle.lines.specs.declared.Line.{Line}
 use Rattle.lines.specs.declared.Line.TheVariants.{Empty}
-use Rattle.lines.specs.declared.Number.{Number}
-use Rattle.lines.specs.declared.Number.TheVariants as number
 use Rattle.lines.proofs.Lines.{line_snoc, size_says, id_says, empty_says}
-use Rattle.document.specs.declared.answer.Outcome.{Outcome}
-use Rattle.document.specs.declared.answer.Outcome.TheVariants as outcome
 use Rattle.program.specs.Input.{begun, lines_of, Read, whole, bad, following, with_id, after_id, ids_from, after_size, read_lines, read_plan}
 use Rattle.program.specs.Turns.{Put, run, or_rest, in_turn, run_read, run_all}
 use Rattle.program.specs.Reader.{begin, size_read, id_read, go_on, settled, fed, together, perform, feed, feed_parts, finished}
 use Rattle.program.specs.declared.Act.TheVariants.{Go}
-use Rattle.program.specs.declared.Ended.TheVariants as ended
-use Rattle.program.specs.declared.Input.TheVariants.{First, Next, Bad, Refused}
 use Rattle.program.proofs.Parts.{parts}
+use Rattle.document.specs.Results.{Outcome}
+use Rattle.program.specs.declared.Input.TheVariants.{First, Next, Stopped}
+use Rattle.program.specs.declared.Fault.{Fault}
+use Rattle.std.specs.Prelude.{Err, None, Ok, Option, Some}
 
 -- ---- a line that has begun
 
@@ -49,15 +45,10 @@ empty_line = refl
 module _ {X : Type 0} (put : X → ℤ → Put X) where
   -- ---- after a fault
 
-  bad_stays : (n : ℕ) (x : X) (bs : List ℕ) → feed put (fed (Bad n) x) bs ≡ fed (Bad n) x
+  stopped_stays : (f : Fault) (x : X) (bs : List ℕ) → feed put (fed (Stopped f) x) bs ≡ fed (Stopped f) x
   unfolding feed
-  bad_stays n x [] = refl
-  bad_stays n x (b ∷ bs) = bad_stays n x bs
-
-  refused_stays : (c : ℕ) (x : X) (bs : List ℕ) → feed put (fed (Refused c) x) bs ≡ fed (Refused c) x
-  unfolding feed
-  refused_stays c x [] = refl
-  refused_stays c x (b ∷ bs) = refused_stays c x bs
+  stopped_stays f x [] = refl
+  stopped_stays f x (b ∷ bs) = stopped_stays f x bs
 
   -- ---- an id
 
@@ -67,25 +58,25 @@ module _ {X : Type 0} (put : X → ℤ → Put X) where
   run_with x z (bad n zs) = refl
 
   -- the last line ends without a newline
-  end_put : (a : Outcome) (n s : ℕ) (y : X) → run (settled (go_on a n s)) y ≡ or_rest a y (run (ended.Whole s) y)
-  end_put outcome.Done n s y = refl
-  end_put (outcome.Refused c) n s y = refl
+  end_put : (a : Outcome) (n s : ℕ) (y : X) → run (settled (go_on a n s)) y ≡ or_rest a y (run (Ok s) y)
+  end_put (Ok tt) n s y = refl
+  end_put (Err c) n s y = refl
 
-  end_id : (i : Id) (n s : ℕ) (x : X) → run (settled (perform put x (id_read i n s)).at) (perform put x (id_read i n s)).held ≡ run_read put x (after_id i n (ids_from s (following n) []))
+  end_id : (i : Option ℤ) (n s : ℕ) (x : X) → run (settled (perform put x (id_read i n s)).at) (perform put x (id_read i n s)).held ≡ run_read put x (after_id i n (ids_from s (following n) []))
   unfolding in_turn ids_from
-  end_id (id.Of z) n s x = end_put (put x z).answer n s (put x z).after
-  end_id id.Bad n s x = refl
+  end_id (Some z) n s x = end_put (put x z).answer n s (put x z).after
+  end_id None n s x = refl
 
   -- a newline ends the line
   module _ (n s : ℕ) (bs : List ℕ) (rest : (y : X) → finished put (feed put (fed (Next Empty (following n) s) y) bs) ≡ run_read put y (ids_from s (following n) (lines_of bs))) where
     line_put : (a : Outcome) (y : X) → finished put (feed put (fed (go_on a n s) y) bs) ≡ or_rest a y (run_read put y (ids_from s (following n) (lines_of bs)))
-    line_put outcome.Done y = rest y
-    line_put (outcome.Refused c) y = ap (finished put) (refused_stays c y bs)
+    line_put (Ok tt) y = rest y
+    line_put (Err c) y = ap (finished put) (stopped_stays _ y bs)
 
-    line_id : (i : Id) (x : X) → finished put (feed put (perform put x (id_read i n s)) bs) ≡ run_read put x (after_id i n (ids_from s (following n) (lines_of bs)))
+    line_id : (i : Option ℤ) (x : X) → finished put (feed put (perform put x (id_read i n s)) bs) ≡ run_read put x (after_id i n (ids_from s (following n) (lines_of bs)))
     unfolding in_turn
-    line_id (id.Of z) x = line_put (put x z).answer (put x z).after ∙ sym (run_with x z (ids_from s (following n) (lines_of bs)))
-    line_id id.Bad x = ap (finished put) (bad_stays n x bs)
+    line_id (Some z) x = line_put (put x z).answer (put x z).after ∙ sym (run_with x z (ids_from s (following n) (lines_of bs)))
+    line_id None x = ap (finished put) (stopped_stays _ x bs)
 
   -- ---- lines of ids
 
@@ -94,7 +85,7 @@ module _ {X : Type 0} (put : X → ℤ → Put X) where
   next_last [] n s x = rw empty_line
   next_last (a ∷ r) n s x =
       ap (λ (t : Bool). run (settled (perform put x (cond t (Go (Next (line_of (a ∷ r)) n s)) (id_read (id_in (line_of (a ∷ r))) n s))).at) (perform put x (cond t (Go (Next (line_of (a ∷ r)) n s)) (id_read (id_in (line_of (a ∷ r))) n s))).held) (empty_says (a ∷ r))
-      ∙ ap (λ (i : Id). run (settled (perform put x (id_read i n s)).at) (perform put x (id_read i n s)).held) (id_says (a ∷ r))
+      ∙ ap (λ (i : Option ℤ). run (settled (perform put x (id_read i n s)).at) (perform put x (id_read i n s)).held) (id_says (a ∷ r))
       ∙ end_id (id_line (a ∷ r)) n s x
 
   module _ (now : List ℕ) (n s : ℕ) (x : X) (b : ℕ) (bs : List ℕ)
@@ -103,7 +94,7 @@ module _ {X : Type 0} (put : X → ℤ → Put X) where
     next_by : (t : Bool) → finished put (feed put (perform put x (cond t (id_read (id_in (line_of now)) n s) (Go (Next (next (line_of now) b) n s)))) bs) ≡ run_read put x (ids_from s n (continued now (cond t ([] ∷ lines_of bs) (begun b (lines_of bs)))))
     unfolding ids_from
     next_by true =
-        ap (λ (i : Id). finished put (feed put (perform put x (id_read i n s)) bs)) (id_says now)
+        ap (λ (i : Option ℤ). finished put (feed put (perform put x (id_read i n s)) bs)) (id_says now)
         ∙ line_id n s bs (λ (y : X). ap (λ (l : Line). finished put (feed put (fed (Next l (following n) s) y) bs)) (sym empty_line) ∙ rest y) (id_line now) x
         ∙ ap (λ (ls : List (List ℕ)). run_read put x (ids_from s n ls)) (sym (continued_end now (lines_of bs)))
     next_by false =
@@ -118,26 +109,26 @@ module _ {X : Type 0} (put : X → ℤ → Put X) where
 
   -- ---- the first line
 
-  end_size : (k : Number) (x : X) → run (settled (size_read k)) x ≡ run_read put x (after_size k [])
+  end_size : (k : Option ℕ) (x : X) → run (settled (size_read k)) x ≡ run_read put x (after_size k [])
   unfolding in_turn ids_from
-  end_size (number.Of s) x = refl
-  end_size number.Bad x = refl
+  end_size (Some s) x = refl
+  end_size None x = refl
 
   first_last : (now : List ℕ) (x : X) → finished put (fed (First (line_of now)) x) ≡ run_read put x (read_lines (continued now []))
   unfolding in_turn
   first_last [] x = rw empty_line
-  first_last (a ∷ r) x = ap (λ (k : Number). run (settled (size_read k)) x) (size_says (a ∷ r)) ∙ end_size (size_line (a ∷ r)) x
+  first_last (a ∷ r) x = ap (λ (k : Option ℕ). run (settled (size_read k)) x) (size_says (a ∷ r)) ∙ end_size (size_line (a ∷ r)) x
 
-  line_size : (k : Number) (x : X) (bs : List ℕ) → finished put (feed put (fed (size_read k) x) bs) ≡ run_read put x (after_size k (lines_of bs))
+  line_size : (k : Option ℕ) (x : X) (bs : List ℕ) → finished put (feed put (fed (size_read k) x) bs) ≡ run_read put x (after_size k (lines_of bs))
   unfolding in_turn
-  line_size (number.Of s) x bs = ap (λ (l : Line). finished put (feed put (fed (Next l 2 s) x) bs)) (sym empty_line) ∙ next_all [] 2 s x bs
-  line_size number.Bad x bs = ap (finished put) (bad_stays 1 x bs)
+  line_size (Some s) x bs = ap (λ (l : Line). finished put (feed put (fed (Next l 2 s) x) bs)) (sym empty_line) ∙ next_all [] 2 s x bs
+  line_size None x bs = ap (finished put) (stopped_stays _ x bs)
 
   module _ (now : List ℕ) (x : X) (b : ℕ) (bs : List ℕ)
       (more : finished put (feed put (fed (First (line_of (now ++ (b ∷ [])))) x) bs) ≡ run_read put x (read_lines (continued (now ++ (b ∷ [])) (lines_of bs)))) where
     first_by : (t : Bool) → finished put (feed put (perform put x (cond t (Go (size_read (size_in (line_of now)))) (Go (First (next (line_of now) b))))) bs) ≡ run_read put x (read_lines (continued now (cond t ([] ∷ lines_of bs) (begun b (lines_of bs)))))
     first_by true =
-        ap (λ (k : Number). finished put (feed put (fed (size_read k) x) bs)) (size_says now)
+        ap (λ (k : Option ℕ). finished put (feed put (fed (size_read k) x) bs)) (size_says now)
         ∙ line_size (size_line now) x bs
         ∙ ap (λ (ls : List (List ℕ)). run_read put x (read_lines ls)) (sym (continued_end now (lines_of bs)))
     first_by false =

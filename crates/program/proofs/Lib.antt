@@ -1,4 +1,3 @@
-pub mod Ways
 pub mod Parts
 pub mod Inputs
 pub mod Same

@@ -6,17 +6,13 @@ use lib.IntN.{ℤ}
 use mir.Syntax.{w64}
 use mir.Val.{SFits}
 use Rattle.lines.specs.Line.{size_line, id_line}
-use Rattle.lines.specs.declared.Id.{Id}
-use Rattle.lines.specs.declared.Id.TheVariants as id
-use Rattle.lines.specs.declared.Number.{Number}
-use Rattle.lines.specs.declared.Number.TheVariants as number
 use Rattle.lines.proofs.Ways.{id_fits_law}
-use Rattle.document.specs.declared.answer.Outcome.{Outcome}
-use Rattle.document.specs.declared.answer.Outcome.TheVariants as outcome
 use Rattle.program.specs.Input.{lines_of, Read, whole, bad, following, after_id, ids_from, after_size, read_lines, read_plan}
 use Rattle.program.specs.Turns.{Put, Run, or_rest, in_turn, run_read, run_all}
-use Rattle.program.specs.declared.Ended.{Ended}
-use Rattle.program.specs.declared.Ended.TheVariants as ended
+use Rattle.document.specs.Results.{Outcome}
+use Rattle.program.specs.Faults.{Ended}
+use Rattle.program.specs.declared.Fault.TheVariants.{Line}
+use Rattle.std.specs.Prelude.{Err, None, Ok, Option, Some}
 
 -- ---- the ids of the input are i64s
 
@@ -28,19 +24,19 @@ abbrev FitRead : Read → Type 0
 FitRead (whole s zs) = Fit zs
 FitRead (bad n zs) = Fit zs
 
-after_fit : (i : Id) (n : ℕ) (r : Read) → ((z : ℤ) → i ≡ id.Of z → SFits w64 z) → FitRead r → FitRead (after_id i n r)
-after_fit (id.Of z) n (whole s zs) h f = (h z refl, f)
-after_fit (id.Of z) n (bad k zs) h f = (h z refl, f)
-after_fit id.Bad n r h f = tt
+after_fit : (i : Option ℤ) (n : ℕ) (r : Read) → ((z : ℤ) → i ≡ Some z → SFits w64 z) → FitRead r → FitRead (after_id i n r)
+after_fit (Some z) n (whole s zs) h f = (h z refl, f)
+after_fit (Some z) n (bad k zs) h f = (h z refl, f)
+after_fit None n r h f = tt
 
 ids_fit : (s n : ℕ) (ls : List (List ℕ)) → FitRead (ids_from s n ls)
 unfolding ids_from
 ids_fit s n [] = tt
 ids_fit s n (l ∷ ls) = after_fit (id_line l) n (ids_from s (following n) ls) (id_fits_law l) (ids_fit s (following n) ls)
 
-size_fit : (k : Number) (ls : List (List ℕ)) → FitRead (after_size k ls)
-size_fit (number.Of s) ls = ids_fit s 2 ls
-size_fit number.Bad ls = tt
+size_fit : (k : Option ℕ) (ls : List (List ℕ)) → FitRead (after_size k ls)
+size_fit (Some s) ls = ids_fit s 2 ls
+size_fit None ls = tt
 
 lines_fit : (ls : List (List ℕ)) → FitRead (read_lines ls)
 lines_fit [] = tt
@@ -54,8 +50,8 @@ module _ {X Y : Type 0} (putX : X → ℤ → Put X) (put_y : Y → ℤ → Put 
   Same r q = (r.ended ≡ q.ended) × R r.left q.left
 
   or_same : (a : Outcome) (u : X) (v : Y) (r : Run X) (q : Run Y) → R u v → Same r q → Same (or_rest a u r) (or_rest a v q)
-  or_same outcome.Done u v r q h s = s
-  or_same (outcome.Refused c) u v r q h s = (refl, h)
+  or_same (Ok tt) u v r q h s = s
+  or_same (Err c) u v r q h s = (refl, h)
 
   turns_same : (x : X) (y : Y) (zs : List ℤ) (e : Ended) → Fit zs → R x y → Same (in_turn putX x zs e) (in_turn put_y y zs e)
   unfolding in_turn
@@ -68,8 +64,8 @@ module _ {X Y : Type 0} (putX : X → ℤ → Put X) (put_y : Y → ℤ → Put 
       (or_same (putX x z).answer (putX x z).after (put_y y z).after _ _ p.1 (turns_same (putX x z).after (put_y y z).after zs e f.1 p.1))
 
   read_same : (x : X) (y : Y) (r : Read) → FitRead r → R x y → Same (run_read putX x r) (run_read put_y y r)
-  read_same x y (whole s zs) f h = turns_same x y zs (ended.Whole s) f h
-  read_same x y (bad n zs) f h = turns_same x y zs (ended.Bad n) f h
+  read_same x y (whole s zs) f h = turns_same x y zs (Ok s) f h
+  read_same x y (bad n zs) f h = turns_same x y zs (Err (Line n)) f h
 
   pub run_same : (x : X) (y : Y) (bs : List ℕ) → R x y → ((run_all putX x bs).ended ≡ (run_all put_y y bs).ended) × R (run_all putX x bs).left (run_all put_y y bs).left
   unfolding read_plan
@@ -79,8 +75,8 @@ module _ {X Y : Type 0} (putX : X → ℤ → Put X) (put_y : Y → ℤ → Put 
 
 module _ {X : Type 0} (put : X → ℤ → Put X) (K : X → Type 0) (keeps : (x : X) (z : ℤ) → K x → K (put x z).after) where
   or_keeps : (a : Outcome) (u : X) (r : Run X) → K u → K r.left → K (or_rest a u r).left
-  or_keeps outcome.Done u r h k = k
-  or_keeps (outcome.Refused c) u r h k = h
+  or_keeps (Ok tt) u r h k = k
+  or_keeps (Err c) u r h k = h
 
   pub turns_keep : (x : X) (zs : List ℤ) (e : Ended) → K x → K (in_turn put x zs e).left
   unfolding in_turn
@@ -88,8 +84,8 @@ module _ {X : Type 0} (put : X → ℤ → Put X) (K : X → Type 0) (keeps : (x
   turns_keep x (z ∷ zs) e h = or_keeps (put x z).answer (put x z).after _ (keeps x z h) (turns_keep (put x z).after zs e (keeps x z h))
 
   read_keeps : (x : X) (r : Read) → K x → K (run_read put x r).left
-  read_keeps x (whole s zs) h = turns_keep x zs (ended.Whole s) h
-  read_keeps x (bad n zs) h = turns_keep x zs (ended.Bad n) h
+  read_keeps x (whole s zs) h = turns_keep x zs (Ok s) h
+  read_keeps x (bad n zs) h = turns_keep x zs (Err (Line n)) h
 
   pub run_keeps : (x : X) (bs : List ℕ) → K x → K (run_all put x bs).left
   run_keeps x bs h = read_keeps x (read_plan bs) h

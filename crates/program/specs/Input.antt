@@ -1,10 +1,6 @@
 -- The program's input, from its bytes alone: S on line 1, then an id per line, up to the end or to the first line that is neither.
-use Rattle.std.specs.Prelude.{cond, List, [], ◌∷◌, ℕ, ◌+◌, ◌-◌, ◌^◌, min, eqb, ℤ}
+use Rattle.std.specs.Prelude.{cond, List, [], ◌∷◌, ℕ, ◌+◌, ◌-◌, ◌^◌, min, eqb, ℤ, Option, Some, None}
 use Rattle.lines.specs.Line.{size_line, id_line}
-use Rattle.lines.specs.declared.Id.{Id}
-use Rattle.lines.specs.declared.Id.TheVariants as id
-use Rattle.lines.specs.declared.Number.{Number}
-use Rattle.lines.specs.declared.Number.TheVariants as number
 
 -- ---- lines
 
@@ -36,9 +32,9 @@ with_id z (whole s zs) = whole s (z ∷ zs)
 with_id z (bad n zs) = bad n (z ∷ zs)
 
 -- line n says an id, or is bad; then the lines after it count no more
-abbrev pub after_id : Id → ℕ → Read → Read
-after_id (id.Of z) n rest = with_id z rest
-after_id id.Bad n rest = bad n []
+abbrev pub after_id : Option ℤ → ℕ → Read → Read
+after_id (Some z) n rest = with_id z rest
+after_id None n rest = bad n []
 
 -- the lines from line n on
 unfoldable pub ids_from : ℕ → ℕ → List (List ℕ) → Read
@@ -46,9 +42,9 @@ ids_from s n [] = whole s []
 ids_from s n (l ∷ ls) = after_id (id_line l) n (ids_from s (following n) ls)
 
 -- line 1 says S
-abbrev pub after_size : Number → List (List ℕ) → Read
-after_size (number.Of s) ls = ids_from s 2 ls
-after_size number.Bad ls = bad 1 []
+abbrev pub after_size : Option ℕ → List (List ℕ) → Read
+after_size (Some s) ls = ids_from s 2 ls
+after_size None ls = bad 1 []
 
 -- empty input has no line 1
 abbrev pub read_lines : List (List ℕ) → Read

@@ -1,3 +1,4 @@
+pub mod Faults
 pub mod Input
 pub mod Turns
 pub mod Reader

@@ -1,56 +1,48 @@
 -- What the reader keeps of the input so far, and what comes next: a function of the bytes, however they are cut into parts.
-use Rattle.std.specs.Prelude.{cond, List, [], ◌∷◌, ◌++◌, ℕ, eqb, ℤ}
+use Rattle.std.specs.Prelude.{cond, List, [], ◌∷◌, ◌++◌, ℕ, eqb, ℤ, Option, Some, None, Ok, Err}
 use Rattle.lines.specs.Reader.{next, empty_in, size_in, id_in}
-use Rattle.lines.specs.declared.Id.{Id}
-use Rattle.lines.specs.declared.Id.TheVariants as id
 use Rattle.lines.specs.declared.Line.TheVariants.{Empty}
-use Rattle.lines.specs.declared.Number.{Number}
-use Rattle.lines.specs.declared.Number.TheVariants as number
-use Rattle.document.specs.declared.answer.Outcome.{Outcome}
-use Rattle.document.specs.declared.answer.Outcome.TheVariants as outcome
 use Rattle.program.specs.Input.{following}
 use Rattle.program.specs.Turns.{Put, Run, run}
 use Rattle.program.specs.declared.Input.{Input}
-use Rattle.program.specs.declared.Input.TheVariants.{First, Next, Bad, Refused}
 use Rattle.program.specs.declared.Act.{Act}
 use Rattle.program.specs.declared.Act.TheVariants.{Go, Insert}
-use Rattle.program.specs.declared.Ended.{Ended}
-use Rattle.program.specs.declared.Ended.TheVariants as ended
+use Rattle.document.specs.Results.{Outcome}
+use Rattle.program.specs.Faults.{Ended}
+use Rattle.program.specs.declared.Input.TheVariants.{First, Next, Stopped}
+use Rattle.program.specs.declared.Fault.TheVariants.{Line, Call}
 
 abbrev pub begin : Input
 begin = First Empty
 
 -- ---- one byte, and the end of a line
 
-abbrev pub size_read : Number → Input
-size_read (number.Of s) = Next Empty 2 s
-size_read number.Bad = Bad 1
+abbrev pub size_read : Option ℕ → Input
+size_read (Some s) = Next Empty 2 s
+size_read None = Stopped (Line 1)
 
-abbrev pub id_read : Id → ℕ → ℕ → Act
-id_read (id.Of z) n s = Insert z n s
-id_read id.Bad n s = Go (Bad n)
+abbrev pub id_read : Option ℤ → ℕ → ℕ → Act
+id_read (Some z) n s = Insert z n s
+id_read None n s = Go (Stopped (Line n))
 
 abbrev pub byte_on : Input → ℕ → Act
 byte_on (First l) b = cond (eqb b 10) (Go (size_read (size_in l))) (Go (First (next l b)))
 byte_on (Next l n s) b = cond (eqb b 10) (id_read (id_in l) n s) (Go (Next (next l b) n s))
-byte_on (Bad n) b = Go (Bad n)
-byte_on (Refused c) b = Go (Refused c)
+byte_on (Stopped f) b = Go (Stopped f)
 
 abbrev pub no_byte : Input → Act
 no_byte (First l) = Go (size_read (size_in l))
 no_byte (Next l n s) = cond (empty_in l) (Go (Next l n s)) (id_read (id_in l) n s)
-no_byte (Bad n) = Go (Bad n)
-no_byte (Refused c) = Go (Refused c)
+no_byte (Stopped f) = Go (Stopped f)
 
 abbrev pub go_on : Outcome → ℕ → ℕ → Input
-go_on outcome.Done n s = Next Empty (following n) s
-go_on (outcome.Refused c) n s = Refused c
+go_on (Ok tt) n s = Next Empty (following n) s
+go_on (Err c) n s = Stopped (Call c)
 
 abbrev pub settled : Input → Ended
-settled (First l) = ended.Bad 1
-settled (Next l n s) = ended.Whole s
-settled (Bad n) = ended.Bad n
-settled (Refused c) = ended.Refused c
+settled (First l) = Err (Line 1)
+settled (Next l n s) = Ok s
+settled (Stopped f) = Err f
 
 -- ---- bytes in turn, and what they are put into
 

@@ -1,10 +1,9 @@
 -- Lines are read and inserted in turn, and the first fault met decides. Said of anything that ids are put into: memory, a set, a list.
-use Rattle.std.specs.Prelude.{List, [], ◌∷◌, ℕ, ℤ}
-use Rattle.document.specs.declared.answer.Outcome.{Outcome}
-use Rattle.document.specs.declared.answer.Outcome.TheVariants as outcome
+use Rattle.std.specs.Prelude.{List, [], ◌∷◌, ℕ, ℤ, Ok, Err}
 use Rattle.program.specs.Input.{Read, whole, bad, read_plan}
-use Rattle.program.specs.declared.Ended.{Ended}
-use Rattle.program.specs.declared.Ended.TheVariants as ended
+use Rattle.document.specs.Results.{Outcome}
+use Rattle.program.specs.Faults.{Ended}
+use Rattle.program.specs.declared.Fault.TheVariants.{Line, Call}
 
 -- what an insert answers, and what it leaves
 pub record Put (X : Type 0) : Type 0 where
@@ -21,8 +20,8 @@ run e x = record { ended = e; left = x }
 
 -- a refusal ends it; else the rest decides
 abbrev pub or_rest : {X : Type 0} → Outcome → X → Run X → Run X
-or_rest outcome.Done y rest = rest
-or_rest (outcome.Refused c) y rest = run (ended.Refused c) y
+or_rest (Ok tt) y rest = rest
+or_rest (Err c) y rest = run (Err (Call c)) y
 
 module _ {X : Type 0} (put : X → ℤ → Put X) where
   -- ids in turn, then e
@@ -32,8 +31,8 @@ module _ {X : Type 0} (put : X → ℤ → Put X) where
 
   -- the ids before a bad line are inserted before it is met
   abbrev pub run_read : X → Read → Run X
-  run_read x (whole s zs) = in_turn x zs (ended.Whole s)
-  run_read x (bad n zs) = in_turn x zs (ended.Bad n)
+  run_read x (whole s zs) = in_turn x zs (Ok s)
+  run_read x (bad n zs) = in_turn x zs (Err (Line n))
 
   -- all of the input
   abbrev pub run_all : X → List ℕ → Run X

@@ -5,18 +5,32 @@ ghost use Rattle.std.specs.Prelude.{◌≡◌};
 ghost use Rattle.lines.specs.Reader.{size_in, id_in};
 ghost use Rattle.program.specs.Input.{following};
 ghost use Rattle.program.specs.Reader.{begin, size_read, id_read, byte_on, no_byte, go_on, settled};
+ghost use Rattle.program.specs.declared.Fault.TheVariants.{Call};
 
-use document::answer::Outcome;
-use document::plan::Plan;
-use lines::{Id, Line, Number};
+use document::refusal::Refusal;
+use lines::Line;
 
-// How far the input is read: in line 1; in line n, where S is s; or to the first fault, a bad line or a refusal.
+// The first fault: a bad line, by its number, or a call's refusal.
+#[derive(Clone, Copy, Debug, PartialEq, Eq)]
+pub enum Fault {
+    Line(u64),
+    Call(Refusal),
+}
+
+impl From<Refusal> for Fault {
+    ghost from_gives = { λ c f. f ≡ Call c };
+
+    fn from(c: Refusal) -> Fault {
+        Fault::Call(c)
+    }
+}
+
+// How far the input is read: in line 1; in line n, where S is s; or to the first fault.
 #[derive(Clone, Copy)]
 pub enum Input {
     First(Line),
     Next(Line, u64, u64),
-    Bad(u64),
-    Refused(u64),
+    Stopped(Fault),
 }
 
 // What comes next: go on, or insert the id of line n.
@@ -24,22 +38,6 @@ pub enum Input {
 pub enum Act {
     Go(Input),
     Insert(i64, u64, u64),
-}
-
-// All of the input: whole, with S; or the first fault.
-#[derive(Clone, Copy)]
-pub enum Ended {
-    Whole(u64),
-    Bad(u64),
-    Refused(u64),
-}
-
-// What the program says: a plan, or the first fault met.
-#[derive(Clone, Copy)]
-pub enum Said {
-    Plan(Plan),
-    Bad(u64),
-    Refused(u64),
 }
 
 // Before the first byte.
@@ -54,8 +52,8 @@ fn size_read(l: Line) -> Input
     ensures { result ≡ size_read (size_in l) }
 {
     match lines::size_line(l) {
-        Number::Of(s) => Input::Next(lines::start(), 2, s),
-        Number::Bad => Input::Bad(1),
+        Some(s) => Input::Next(lines::start(), 2, s),
+        None => Input::Stopped(Fault::Line(1)),
     }
 }
 
@@ -64,8 +62,8 @@ fn id_read(l: Line, n: u64, s: u64) -> Act
     ensures { result ≡ id_read (id_in l) n s }
 {
     match lines::id_line(l) {
-        Id::Of(id) => Act::Insert(id, n, s),
-        Id::Bad => Act::Go(Input::Bad(n)),
+        Some(id) => Act::Insert(id, n, s),
+        None => Act::Go(Input::Stopped(Fault::Line(n))),
     }
 }
 
@@ -74,20 +72,11 @@ pub fn byte(i: Input, b: u8) -> Act
     ensures { result ≡ byte_on i b }
 {
     match i {
-        Input::First(l) => {
-            if b == b'\n' {
-                return Act::Go(size_read(l));
-            }
-            Act::Go(Input::First(lines::feed(l, b)))
-        }
-        Input::Next(l, n, s) => {
-            if b == b'\n' {
-                return id_read(l, n, s);
-            }
-            Act::Go(Input::Next(lines::feed(l, b), n, s))
-        }
-        Input::Bad(n) => Act::Go(Input::Bad(n)),
-        Input::Refused(c) => Act::Go(Input::Refused(c)),
+        Input::First(l) if b == b'\n' => Act::Go(size_read(l)),
+        Input::First(l) => Act::Go(Input::First(lines::feed(l, b))),
+        Input::Next(l, n, s) if b == b'\n' => id_read(l, n, s),
+        Input::Next(l, n, s) => Act::Go(Input::Next(lines::feed(l, b), n, s)),
+        Input::Stopped(f) => Act::Go(Input::Stopped(f)),
     }
 }
 
@@ -97,14 +86,8 @@ pub fn no_byte(i: Input) -> Act
 {
     match i {
         Input::First(l) => Act::Go(size_read(l)),
-        Input::Next(l, n, s) => {
-            if lines::is_empty(l) {
-                return Act::Go(Input::Next(l, n, s));
-            }
-            id_read(l, n, s)
-        }
-        Input::Bad(n) => Act::Go(Input::Bad(n)),
-        Input::Refused(c) => Act::Go(Input::Refused(c)),
+        Input::Next(l, n, s) if !lines::is_empty(l) => id_read(l, n, s),
+        _ => Act::Go(i),
     }
 }
 
@@ -112,27 +95,26 @@ pub fn no_byte(i: Input) -> Act
 fn after(n: u64) -> u64
     ensures { result ≡ following n }
 {
-    if n < u64::MAX { n + 1 } else { n }
+    n.saturating_add(1)
 }
 
 // The id of line n has gone into the set, and the next line begins; or it was refused.
-pub fn go_on(o: Outcome, n: u64, s: u64) -> Input
+pub fn go_on(o: Result<(), Refusal>, n: u64, s: u64) -> Input
     ensures { result ≡ go_on o n s }
 {
     match o {
-        Outcome::Done => Input::Next(lines::start(), after(n), s),
-        Outcome::Refused(c) => Input::Refused(c),
+        Ok(()) => Input::Next(lines::start(), after(n), s),
+        Err(c) => Input::Stopped(Fault::Call(c)),
     }
 }
 
-// What the input was, once it has ended and its last line is inserted.
-pub fn settle(i: Input) -> Ended
+// What the input was, once it has ended and its last line is inserted: S, or the first fault.
+pub fn settle(i: Input) -> Result<u64, Fault>
     ensures { result ≡ settled i }
 {
     match i {
-        Input::First(_) => Ended::Bad(1),
-        Input::Next(_, _, s) => Ended::Whole(s),
-        Input::Bad(n) => Ended::Bad(n),
-        Input::Refused(c) => Ended::Refused(c),
+        Input::First(_) => Err(Fault::Line(1)),
+        Input::Next(_, _, s) => Ok(s),
+        Input::Stopped(f) => Err(f),
     }
 }

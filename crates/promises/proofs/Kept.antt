@@ -7,7 +7,6 @@ use Rattle.document.specs.Answers.{answer, after, reply}
 use Rattle.document.specs.Union.{union_answer, united, leftover}
 use Rattle.document.specs.Plan.{PlansFor}
 use Rattle.document.specs.RangeList.{marks, marks_in, hits}
-use Rattle.document.specs.declared.answer.Outcome.TheVariants.{Done}
 use Rattle.layout.specs.Mem.{Mem}
 use Rattle.layout.specs.Meaning.{state_of}
 use Rattle.layout.specs.Follows.{Follows}
@@ -15,6 +14,7 @@ use Rattle.lists.specs.Lists.{open_answer, unless_refused, answered, one_of}
 use Rattle.lists.specs.Inserts.{in_turn, all_next, after_of}
 use Rattle.promises.specs.Histories.{Step, set_up, changed, read, planned, marks_set, ends_set, read_all, inserted_all, Story, made, then, took, gave, last_by, last, Stepped, Happened, described_by, described, RightBy, Kept}
 use Rattle.promises.proofs.SetUps.{fit, set_up_right, set_up_follows, set_up_state}
+use Rattle.std.specs.Prelude.{Ok}
 
 -- one step
 pub record Onward (x : Mem) (q : State) (t : Step) : Type 0 where
@@ -29,8 +29,8 @@ onward x q (changed c a y) w s d =
     record { follows = r.follows; state = r.state ∙ ap (λ (p : State). after p c) s; right = r.said ∙ ap (λ (p : State). answer p c) s }
 onward x q (read k a) w s d = record { follows = w; state = s; right = d.says w ∙ ap (λ (p : State). reply p k) s }
 onward x q (planned S bs a cs) w s d = record { follows = w; state = s; right = subst (λ (p : State). PlansFor p S bs a cs) s (d.says w) }
-onward x q (marks_set rs a us) w s d = record { follows = w; state = s; right = subst (λ (p : State). (a ≡ Done) × (us ≡ marks (hits p) rs)) s (d.says w) }
-onward x q (ends_set los his ms a ns) w s d = record { follows = w; state = s; right = subst (λ (p : State). (a ≡ Done) × (ns ≡ marks_in (hits p) los his ms)) s (d.says w) }
+onward x q (marks_set rs a us) w s d = record { follows = w; state = s; right = subst (λ (p : State). (a ≡ (Ok tt)) × (us ≡ marks (hits p) rs)) s (d.says w) }
+onward x q (ends_set los his ms a ns) w s d = record { follows = w; state = s; right = subst (λ (p : State). (a ≡ (Ok tt)) × (ns ≡ marks_in (hits p) los his ms)) s (d.says w) }
 onward x q (read_all k ids ns a us) w s d = record {
   follows = w;
   state = s;

@@ -16,14 +16,6 @@ use Rattle.sums.proofs.Counts.{count_le}
 use Rattle.document.specs.State.{State}
 use Rattle.document.specs.Calls.{insert, Said, whether, many, maybe, Refuses}
 use Rattle.document.specs.Insert.{new_answer}
-use Rattle.document.specs.declared.answer.Outcome.{Outcome}
-use Rattle.document.specs.declared.answer.Outcome.TheVariants.{Done, Refused}
-use Rattle.document.specs.declared.answer.Truth.{Truth}
-use Rattle.document.specs.declared.answer.Truth.TheVariants as truth
-use Rattle.document.specs.declared.answer.Amount.{Amount}
-use Rattle.document.specs.declared.answer.Amount.TheVariants as amount
-use Rattle.document.specs.declared.answer.Perhaps.{Perhaps}
-use Rattle.document.specs.declared.answer.Perhaps.TheVariants as perhaps
 use Rattle.document.proofs.Threes.{answer_not_three}
 use Rattle.layout.specs.Mem.{Mem}
 use Rattle.layout.specs.Sizes.{head}
@@ -50,6 +42,10 @@ use Rattle.contracts.specs.Runs.{ran_by}
 use Rattle.promises.specs.Histories.{changed, Story, then, Happened, last, described}
 use Rattle.promises.specs.Lists.{ask_of, Number, AllFit, inserted_into}
 use Rattle.promises.proofs.Theorems.{kept}
+use Rattle.document.specs.Refusals.{not_laid_out, number}
+use Rattle.document.specs.Results.{Amount, Outcome, Perhaps, Truth}
+use Rattle.std.specs.Prelude.{Err, None, Ok, Some}
+use Rattle.document.specs.declared.refusal.Refusal.{Refusal}
 
 -- ---- answers to a list
 
@@ -65,7 +61,7 @@ module _ (x : Mem) (k : ListAsk) (ids : List ℤ) (ns : List ℕ) where
   some_list = answers_all x k ids ns (unless_refused (list_answer x k) (answered (one_by x k) ids ns) ns) (list_answer x k) refl refl
 
   -- a refusal leaves every answer as it was
-  pub refused_stays_list : (us : List ℕ) (n : ℕ) → AnswersAll x k ids ns (Refused n) us → us ≡ ns
+  pub refused_stays_list : (us : List ℕ) (n : Refusal) → AnswersAll x k ids ns (Err n) us → us ≡ ns
   refused_stays_list us n d = d.list
 
   -- answers past the ids stay
@@ -73,36 +69,36 @@ module _ (x : Mem) (k : ListAsk) (ids : List ℤ) (ns : List ℕ) where
   rest_stays_list a us d i l = ap (λ (r : List ℕ). get_or r i 0) d.list ∙ go a
     where
       go : (o : Outcome) → get_or (unless_refused o (answered (one_by x k) ids ns) ns) i 0 ≡ get_or ns i 0
-      go Done = answered_past (one_by x k) i ids ns l
-      go (Refused n) = refl
+      go (Ok tt) = answered_past (one_by x k) i ids ns l
+      go (Err n) = refl
 
   -- memory that follows the layout is never the cause of a 3
-  pub never_three_list : Follows x → (us : List ℕ) → AnswersAll x k ids ns (Refused 3) us → ⊥
+  pub never_three_list : Follows x → (us : List ℕ) → AnswersAll x k ids ns (Err not_laid_out) us → ⊥
   never_three_list w us d = go k (ranked x) (d.says w).0
     where
-      go : (j : ListAsk) (b : Bool) → Refused 3 ≡ open_answer b j → ⊥
-      go get_all b e = let z : ◌≡◌ {A = ℕ} 0 1 = cc in omega arith
-      go rank_all true e = let z : ◌≡◌ {A = ℕ} 0 1 = cc in omega arith
-      go rank_all false e = let z : ◌≡◌ {A = ℕ} 3 5 = cc in omega arith
-      go rank_if_all true e = let z : ◌≡◌ {A = ℕ} 0 1 = cc in omega arith
-      go rank_if_all false e = let z : ◌≡◌ {A = ℕ} 3 5 = cc in omega arith
+      go : (j : ListAsk) (b : Bool) → Err not_laid_out ≡ open_answer b j → ⊥
+      go get_all b e = cc
+      go rank_all true e = cc
+      go rank_all false e = cc
+      go rank_if_all true e = cc
+      go rank_if_all false e = cc
 
 -- ---- each of them is the single call's
 
-number_truth : (t : Truth) (b : Bool) → t ≡ truth.Is b → Number (whether t) (truth_number t)
+number_truth : (t : Truth) (b : Bool) → t ≡ Ok b → Number (whether t) (truth_number t)
 number_truth t b e = subst (λ (r : Truth). Number (whether r) (truth_number r)) (sym e) refl
 
-number_amount : (t : Amount) (n : ℕ) → t ≡ amount.Of n → Number (many t) (amount_number t)
+number_amount : (t : Amount) (n : ℕ) → t ≡ Ok n → Number (many t) (amount_number t)
 number_amount t n e = subst (λ (r : Amount). Number (many r) (amount_number r)) (sym e) refl
 
-number_perhaps : (t : Perhaps) (b : Bool) (n : ℕ) → t ≡ cond b (perhaps.Of n) perhaps.Nothing → Number (maybe t) (perhaps_number t)
+number_perhaps : (t : Perhaps) (b : Bool) (n : ℕ) → t ≡ cond b (Ok (Some n)) (Ok None) → Number (maybe t) (perhaps_number t)
 number_perhaps t b n e = subst (λ (r : Perhaps). Number (maybe r) (perhaps_number r)) (sym e) (go b)
   where
-    go : (b : Bool) → Number (maybe (cond b (perhaps.Of n) perhaps.Nothing)) (perhaps_number (cond b (perhaps.Of n) perhaps.Nothing))
+    go : (b : Bool) → Number (maybe (cond b (Ok (Some n)) (Ok None))) (perhaps_number (cond b (Ok (Some n)) (Ok None)))
     go true = refl
     go false = refl
 
-number_of : {x : Mem} → Walked x (head x) → (k : ListAsk) → open_answer (ranked x) k ≡ Done → (z : ℤ) (s : Said) → Answers x (ask_of k z) s → Number s (one_by x k z)
+number_of : {x : Mem} → Walked x (head x) → (k : ListAsk) → open_answer (ranked x) k ≡ (Ok tt) → (z : ℤ) (s : Said) → Answers x (ask_of k z) s → Number s (one_by x k z)
 number_of {x} w get_all e z s a = let t = get_told w z in subst (λ (r : Said). Number r (one_by x get_all z)) (sym a.by) (number_truth (get_by x z) t.0 t.1)
 number_of {x} w rank_all e z s a =
     let t = rank_of_told w (open_ranked (ranked x) e) z in
@@ -112,7 +108,7 @@ number_of {x} w rank_if_all e z s a =
     subst (λ (r : Said). Number r (one_by x rank_if_all z)) (sym a.by) (number_perhaps (rank_if_by x z) t.0 t.1 t.2)
 
 -- where the list isn't refused no single call of any id is, and each answer stands for what the single call says
-pub singly : (x : Mem) (k : ListAsk) (ids : List ℤ) (ns us : List ℕ) → AnswersAll x k ids ns Done us → (i : ℕ) → i < length ids → i < length ns
+pub singly : (x : Mem) (k : ListAsk) (ids : List ℤ) (ns us : List ℕ) → AnswersAll x k ids ns (Ok tt) us → (i : ℕ) → i < length ids → i < length ns
     → (s : Said) → Answers x (ask_of k (get_or ids i (pos 0))) s → Number s (get_or us i 0)
 singly x k ids ns us d i l m s a =
     let p = passed x k (sym d.said) in
@@ -147,15 +143,15 @@ module _ (x : Mem) (ids : List ℤ) where
       where
         go : Ending answer_by after_by x ids a → a.taken ≡ length ids
         go (whole t n) = t
-        go (stopped l s) = absurd (never_zero (all_next after_by x (take a.taken ids)) (get_or ids a.taken (pos 0)) (s ∙ ap truth.Refused e))
+        go (stopped l n s d) = absurd (never_zero (all_next after_by x (take a.taken ids)) (get_or ids a.taken (pos 0)) n s (sym d ∙ e))
 
     -- any other number, that it refused the next one, where the ids before it led
-    pub next_refused : (a.stop ≡ 0 → ⊥) → (a.taken < length ids) × (answer_by y (get_or ids a.taken (pos 0)) ≡ truth.Refused a.stop)
+    pub next_refused : (a.stop ≡ 0 → ⊥) → (a.taken < length ids) × (n : Refusal) × (answer_by y (get_or ids a.taken (pos 0)) ≡ Err n) × (a.stop ≡ number n)
     next_refused n = go ends
       where
-        go : Ending answer_by after_by x ids a → (a.taken < length ids) × (answer_by y (get_or ids a.taken (pos 0)) ≡ truth.Refused a.stop)
+        go : Ending answer_by after_by x ids a → (a.taken < length ids) × (n : Refusal) × (answer_by y (get_or ids a.taken (pos 0)) ≡ Err n) × (a.stop ≡ number n)
         go (whole t e) = absurd (n e)
-        go (stopped l s) = (l, ap (λ (m : Mem). answer_by m (get_or ids a.taken (pos 0))) d.left ∙ s)
+        go (stopped l k s e) = (l, k, ap (λ (m : Mem). answer_by m (get_or ids a.taken (pos 0))) d.left ∙ s, e)
 
     -- elements past the sizes are never written
     pub spare_stays_inserts : Spare (head x) x y
@@ -166,8 +162,8 @@ module _ (x : Mem) (ids : List ℤ) where
 
 -- memory that follows the layout is never the cause of a 3
 not_three_next : (r : Truth) (b : Inserted) → (Refuses (whether r) 3 → ⊥) → (b.stop ≡ 3 → ⊥) → (then_rest r b).stop ≡ 3 → ⊥
-not_three_next (truth.Is v) b p q e = q e
-not_three_next (truth.Refused n) b p q e = p e
+not_three_next (Ok v) b p q e = q e
+not_three_next (Err n) b p q e = p e
 
 not_three : (q : State) (zs : List ℤ) → (in_turn new_answer after_of q zs).stop ≡ 3 → ⊥
 unfolding in_turn
@@ -190,25 +186,25 @@ fit_taken [] f (suc n) = tt
 fit_taken (z ∷ zs) f (suc n) = (f.0, fit_taken zs f.1 n)
 
 module _ (x : Mem) (ids : List ℤ) (fit : AllFit ids) where
-  abbrev Some : Type 0
-  Some = (a : Inserted) × (y : Mem) × InsertsAll x ids a y
+  abbrev Allowed : Type 0
+  Allowed = (a : Inserted) × (y : Mem) × InsertsAll x ids a y
 
-  some_from : (n i f : ℕ) (y : Mem) → Sofar x ids i f y → length ids ≤ i + n → Some
+  some_from : (n i f : ℕ) (y : Mem) → Sofar x ids i f y → length ids ≤ i + n → Allowed
   some_from zero i f y s l = (inserted_of i f 0, y, sofar_all x ids i f y s (omega arith))
   some_from (suc n) i f y s l = go (ltb i (length ids)) refl (insert_by y (get_or ids i (pos 0))).answer refl (some_from n (i + 1))
     where
       go : (b : Bool) → ltb i (length ids) ≡ b → (r : Truth) → (insert_by y (get_or ids i (pos 0))).answer ≡ r
-          → ((g : ℕ) (v : Mem) → Sofar x ids (i + 1) g v → length ids ≤ i + 1 + n → Some) → Some
+          → ((g : ℕ) (v : Mem) → Sofar x ids (i + 1) g v → length ids ≤ i + 1 + n → Allowed) → Allowed
       go false t r e more = (inserted_of i f 0, y, sofar_all x ids i f y s (ltb-false i (length ids) t))
-      go true t (truth.Is b) e more =
+      go true t (Ok b) e more =
           let m = ltb-true i (length ids) t in
           let d = does y (insert (get_or ids i (pos 0))) (fit_at ids fit i m) refl in
           more (f + bool_byte b) (insert_by y (get_or ids i (pos 0))).after
           (sofar_next x ids i f y s m (get_or ids i (pos 0)) refl (insert_by y (get_or ids i (pos 0))).after (insert_by y (get_or ids i (pos 0))).answer b d e) (omega arith)
-      go true t (truth.Refused c) e more =
+      go true t (Err c) e more =
           let m = ltb-true i (length ids) t in
           let d = does y (insert (get_or ids i (pos 0))) (fit_at ids fit i m) refl in (
-            inserted_of i f c,
+            inserted_of i f (number c),
             (insert_by y (get_or ids i (pos 0))).after,
             sofar_refused x ids i f y s m (get_or ids i (pos 0)) refl (insert_by y (get_or ids i (pos 0))).after (insert_by y (get_or ids i (pos 0))).answer c d e,
           )

@@ -3,40 +3,35 @@ use mathlib.Core.Path.{◌≡◌, refl, sym, ap, subst, ◌∙◌}
 use mathlib.Core.List.{List, [], ◌∷◌, map}
 use mathlib.Core.Bool.{Bool, true, false, cond}
 use Prim.Native.Nat.{ℕ, ◌-◌, ◌≤◌, ◌<◌}
-use native.Mathlib.Omega.{arith}
 use lib.IntN.{ℤ}
-use lib.ListN.{length, take}
+use lib.ListN.{length}
 use Rattle.sums.specs.Ids.{total}
 use Rattle.sums.specs.Cuts.{parts}
 use Rattle.document.specs.State.{State}
 use Rattle.document.specs.Calls.{range_test, whether}
 use Rattle.document.specs.Plan.{plan_of}
 use Rattle.document.specs.Spans.{span_at, ids_answer}
-use Rattle.document.specs.RangeList.{marked_by, marks, marks_in, hits, meets, meets_answer, meets_marks, meets_marks_in}
+use Rattle.document.specs.RangeList.{marks, marks_in, hits, meets, meets_answer, meets_marks, meets_marks_in}
 use Rattle.document.specs.declared.range.Range.{Range}
-use Rattle.document.specs.declared.plan.Spanned.{Spanned}
-use Rattle.document.specs.declared.plan.Spanned.TheVariants as spanned
-use Rattle.document.specs.declared.plan.Planning.TheVariants.{Made}
-use Rattle.document.specs.declared.answer.Truth.{Truth}
-use Rattle.document.specs.declared.answer.Truth.TheVariants.{Is}
-use Rattle.document.specs.declared.answer.Outcome.{Outcome}
-use Rattle.document.specs.declared.answer.Outcome.TheVariants.{Done, Refused}
 use Rattle.layout.specs.Mem.{Mem}
 use Rattle.layout.specs.Follows.{Follows}
 use Rattle.layout.specs.Tests.{walked}
 use Rattle.contracts.specs.Does.{Answers}
 use Rattle.scan.proofs.Promises.{any_by_law}
 use Rattle.cuts.specs.Promise.{Plans}
-use Rattle.range_list.specs.Marks.{hit_by, range_answer, due_by, MarksByRange, EndsByRange, MarksByPartition, EndsByPartition}
+use Rattle.range_list.specs.Marks.{hit_by, range_answer, MarksByRange, EndsByRange, MarksByPartition, EndsByPartition}
 use Rattle.range_list.proofs.AfterWalk.{any_told}
-use Rattle.range_list.proofs.Upto.{upto}
 use Rattle.range_list.proofs.Columns.{low, high, mark_of, columns_are}
-use Rattle.range_list.proofs.Outcomes.{shortest, marks_by_range, ends_by_range}
+use Rattle.range_list.proofs.Outcomes.{marks_by_range, ends_by_range}
 use Rattle.promises.specs.Histories.{Story, Happened, last, described}
 use Rattle.promises.proofs.Theorems.{kept, cuts}
+use Rattle.document.specs.Refusals.{not_laid_out}
+use Rattle.document.specs.Results.{Outcome, Spanned, Truth}
+use Rattle.std.specs.Prelude.{Err, Ok}
+use Rattle.document.specs.declared.refusal.Refusal.{Refusal}
 
-differ : {n : ℕ} → Refused n ≡ Done → ⊥
-differ e = let z : ◌≡◌ {A = ℕ} 0 1 = cc in omega arith
+differ : {n : Refusal} → ◌≡◌ {A = Outcome} (Err n) (Ok tt) → ⊥
+differ e = cc
 
 -- ---- by range test
 
@@ -56,25 +51,23 @@ module _ (x : Mem) where
   -- and there is one
   pub some_marks : (rs : List Range) → (a : Outcome) × (us : List Range) × MarksByRange x rs a us
   some_marks rs =
-      let n = due_by (range_answer x) (length rs) in
-      let us = upto (marked_by (hit_by x)) n rs in
-      (range_answer x, us, marks_by_range rs (range_answer x) n refl us x refl refl)
+      let us = cond (walked x) (marks (hit_by x) rs) rs in
+      (range_answer x, us, marks_by_range x (range_answer x) refl rs us refl)
 
   pub some_ends : (los his : List ℤ) (ms : List ℕ) → (a : Outcome) × (ns : List ℕ) × EndsByRange x los his ms a ns
   some_ends los his ms =
-      let n = due_by (range_answer x) (shortest los his ms) in
-      let ns = marks_in (hit_by x) (take n los) his ms in
-      (range_answer x, ns, ends_by_range los his ms (range_answer x) (shortest los his ms) n refl refl ns x refl refl)
+      let ns = cond (walked x) (marks_in (hit_by x) los his ms) ms in
+      (range_answer x, ns, ends_by_range x (range_answer x) refl los his ms ns refl)
 
   -- a refused call leaves the list as it was
-  stays : {A : Type 0} (n : ℕ) (after before l : A) (b : Bool) → Refused n ≡ cond b Done (Refused 3) → l ≡ cond b after before → l ≡ before
+  stays : {A : Type 0} (n : Refusal) (after before l : A) (b : Bool) → ◌≡◌ {A = Outcome} (Err n) (cond b (Ok tt) (Err not_laid_out)) → l ≡ cond b after before → l ≡ before
   stays n after before l true e q = absurd (differ e)
   stays n after before l false e q = q
 
-  pub refused_stays_marks : (rs us : List Range) (n : ℕ) → MarksByRange x rs (Refused n) us → us ≡ rs
+  pub refused_stays_marks : (rs us : List Range) (n : Refusal) → MarksByRange x rs (Err n) us → us ≡ rs
   refused_stays_marks rs us n d = stays n (marks (hit_by x) rs) rs us (walked x) d.said d.list
 
-  pub refused_stays_ends : (los his : List ℤ) (ms ns : List ℕ) (n : ℕ) → EndsByRange x los his ms (Refused n) ns → ns ≡ ms
+  pub refused_stays_ends : (los his : List ℤ) (ms ns : List ℕ) (n : Refusal) → EndsByRange x los his ms (Err n) ns → ns ≡ ms
   refused_stays_ends los his ms ns n d = stays n (marks_in (hit_by x) los his ms) ms ns (walked x) d.said d.list
 
   -- low and high stay
@@ -86,12 +79,12 @@ module _ (x : Mem) where
       go false = (refl, refl)
 
   -- where it isn't refused no range test of the set is, and the marks are what they answer
-  pub no_test_refused : (rs us : List Range) → MarksByRange x rs Done us → (lo hi : ℤ) (r : Truth) → Answers x (range_test lo hi) (whether r) → r ≡ Is (hit_by x lo hi)
+  pub no_test_refused : (rs us : List Range) → MarksByRange x rs (Ok tt) us → (lo hi : ℤ) (r : Truth) → Answers x (range_test lo hi) (whether r) → r ≡ Ok (hit_by x lo hi)
   no_test_refused rs us d lo hi r a = any_by_law x lo hi r a ∙ any_told x (passed (walked x) refl) lo hi
     where
       passed : (b : Bool) → walked x ≡ b → walked x ≡ true
       passed true e = e
-      passed false e = absurd (differ (sym (d.said ∙ ap (λ (b : Bool). cond b Done (Refused 3)) e)))
+      passed false e = absurd (differ (sym (d.said ∙ ap (λ (b : Bool). cond b (Ok tt) (Err not_laid_out)) e)))
 
   -- records and slices get the same marks
   pub same_marks : (rs us : List Range) (a b : Outcome) (ns : List ℕ) → MarksByRange x rs a us → EndsByRange x (map low rs) (map high rs) (map mark_of rs) b ns → (a ≡ b) × (map mark_of us ≡ ns)
@@ -102,10 +95,10 @@ module _ (x : Mem) where
       go false = refl
 
   -- memory that follows the layout is never the cause of a 3, nor of any refusal
-  pub never_three_marks : Follows x → (rs us : List Range) (n : ℕ) → MarksByRange x rs (Refused n) us → ⊥
+  pub never_three_marks : Follows x → (rs us : List Range) (n : Refusal) → MarksByRange x rs (Err n) us → ⊥
   never_three_marks w rs us n d = differ (d.says w).0
 
-  pub never_three_ends : Follows x → (los his : List ℤ) (ms ns : List ℕ) (n : ℕ) → EndsByRange x los his ms (Refused n) ns → ⊥
+  pub never_three_ends : Follows x → (los his : List ℤ) (ms ns : List ℕ) (n : Refusal) → EndsByRange x los his ms (Err n) ns → ⊥
   never_three_ends w los his ms ns n d = differ (d.says w).0
 
 -- ---- by a partition that `ids` answers or refuses
@@ -123,21 +116,21 @@ module _ (i : Spanned) where
   pub some_ends_by_partition : (los his : List ℤ) (ms : List ℕ) → EndsByPartition i los his ms (meets_answer i) (meets_marks_in i los his ms)
   some_ends_by_partition los his ms = record { said = refl; list = refl }
 
-pub refused_stays_marks_by_partition : (i : Spanned) (rs us : List Range) (n : ℕ) → MarksByPartition i rs (Refused n) us → us ≡ rs
-refused_stays_marks_by_partition (spanned.Of j) rs us n d = absurd (differ d.said)
-refused_stays_marks_by_partition (spanned.Refused c) rs us n d = d.list
+pub refused_stays_marks_by_partition : (i : Spanned) (rs us : List Range) (n : Refusal) → MarksByPartition i rs (Err n) us → us ≡ rs
+refused_stays_marks_by_partition (Ok j) rs us n d = absurd (differ d.said)
+refused_stays_marks_by_partition (Err c) rs us n d = d.list
 
-pub refused_stays_ends_by_partition : (i : Spanned) (los his : List ℤ) (ms ns : List ℕ) (n : ℕ) → EndsByPartition i los his ms (Refused n) ns → ns ≡ ms
-refused_stays_ends_by_partition (spanned.Of j) los his ms ns n d = absurd (differ d.said)
-refused_stays_ends_by_partition (spanned.Refused c) los his ms ns n d = d.list
+pub refused_stays_ends_by_partition : (i : Spanned) (los his : List ℤ) (ms ns : List ℕ) (n : Refusal) → EndsByPartition i los his ms (Err n) ns → ns ≡ ms
+refused_stays_ends_by_partition (Ok j) los his ms ns n d = absurd (differ d.said)
+refused_stays_ends_by_partition (Err c) los his ms ns n d = d.list
 
 pub same_marks_by_partition : (i : Spanned) (rs us : List Range) (a b : Outcome) (ns : List ℕ) → MarksByPartition i rs a us → EndsByPartition i (map low rs) (map high rs) (map mark_of rs) b ns
     → (a ≡ b) × (map mark_of us ≡ ns)
 same_marks_by_partition i rs us a b ns d e = (d.said ∙ sym e.said, ap (map mark_of) d.list ∙ go i ∙ sym e.list)
   where
     go : (i : Spanned) → map mark_of (meets_marks i rs) ≡ meets_marks_in i (map low rs) (map high rs) (map mark_of rs)
-    go (spanned.Of j) = columns_are (meets j) rs
-    go (spanned.Refused c) = refl
+    go (Ok j) = columns_are (meets j) rs
+    go (Err c) = refl
 
 -- ---- the history of a set that set_up made
 
@@ -146,25 +139,25 @@ module _ (s : Story) (ran : Happened s) where
   now = described s
 
   -- the marks are those of the set described
-  pub marks_of_set : (rs : List Range) (a : Outcome) (us : List Range) → MarksByRange (last s) rs a us → (a ≡ Done) × (us ≡ marks (hits now) rs)
-  marks_of_set rs a us d = let k = kept s ran in subst (λ (q : State). (a ≡ Done) × (us ≡ marks (hits q) rs)) k.state (d.says k.follows)
+  pub marks_of_set : (rs : List Range) (a : Outcome) (us : List Range) → MarksByRange (last s) rs a us → (a ≡ (Ok tt)) × (us ≡ marks (hits now) rs)
+  marks_of_set rs a us d = let k = kept s ran in subst (λ (q : State). (a ≡ (Ok tt)) × (us ≡ marks (hits q) rs)) k.state (d.says k.follows)
 
-  pub ends_of_set : (los his : List ℤ) (ms : List ℕ) (a : Outcome) (ns : List ℕ) → EndsByRange (last s) los his ms a ns → (a ≡ Done) × (ns ≡ marks_in (hits now) los his ms)
-  ends_of_set los his ms a ns d = let k = kept s ran in subst (λ (q : State). (a ≡ Done) × (ns ≡ marks_in (hits q) los his ms)) k.state (d.says k.follows)
+  pub ends_of_set : (los his : List ℤ) (ms : List ℕ) (a : Outcome) (ns : List ℕ) → EndsByRange (last s) los his ms a ns → (a ≡ (Ok tt)) × (ns ≡ marks_in (hits now) los his ms)
+  ends_of_set los his ms a ns d = let k = kept s ran in subst (λ (q : State). (a ≡ (Ok tt)) × (ns ≡ marks_in (hits q) los his ms)) k.state (d.says k.follows)
 
   -- by partition k of the plan that planning made of it, they are those of the plan's k-th interval, and it isn't refused
   module _ (o : now.mode ≡ true) (S : ℕ) (bs cs : List ℤ) (room : parts (total now.members) S - 1 ≤ length bs)
-      (made : Plans (last s) S bs (Made (plan_of (total now.members) S)) cs) (k : ℕ) (l : k < parts (total now.members) S) where
+      (made : Plans (last s) S bs (Ok (plan_of (total now.members) S)) cs) (k : ℕ) (l : k < parts (total now.members) S) where
     abbrev part : Spanned
     part = ids_answer (plan_of (total now.members) S) cs k
 
-    there : part ≡ spanned.Of (span_at (plan_of (total now.members) S) cs k)
-    there = (cuts s ran o S bs (Made (plan_of (total now.members) S)) cs made).ids room k l
+    there : part ≡ Ok (span_at (plan_of (total now.members) S) cs k)
+    there = (cuts s ran o S bs (Ok (plan_of (total now.members) S)) cs made).ids room k l
 
     pub marks_of_part : (rs : List Range) (a : Outcome) (us : List Range) → MarksByPartition part rs a us
-        → (a ≡ Done) × (us ≡ marks (meets (span_at (plan_of (total now.members) S) cs k)) rs)
+        → (a ≡ (Ok tt)) × (us ≡ marks (meets (span_at (plan_of (total now.members) S) cs k)) rs)
     marks_of_part rs a us d = (d.said ∙ ap meets_answer there, d.list ∙ ap (λ (i : Spanned). meets_marks i rs) there)
 
     pub ends_of_part : (los his : List ℤ) (ms : List ℕ) (a : Outcome) (ns : List ℕ) → EndsByPartition part los his ms a ns
-        → (a ≡ Done) × (ns ≡ marks_in (meets (span_at (plan_of (total now.members) S) cs k)) los his ms)
+        → (a ≡ (Ok tt)) × (ns ≡ marks_in (meets (span_at (plan_of (total now.members) S) cs k)) los his ms)
     ends_of_part los his ms a ns d = (d.said ∙ ap meets_answer there, d.list ∙ ap (λ (i : Spanned). meets_marks_in i los his ms) there)

@@ -7,7 +7,6 @@ use Rattle.layout.specs.Meaning.{ranked}
 use Rattle.layout.specs.Follows.{Follows}
 use Rattle.layout.specs.SetUp.{Did, did}
 use Rattle.document.specs.declared.sizes.Sizes.{Sizes}
-use Rattle.document.specs.declared.answer.Outcome.TheVariants.{Done, Refused}
 use Rattle.layout_laws.proofs.Walked.{follows_walked}
 use Rattle.document.specs.Calls.{rank_up, leave, Said}
 use Rattle.contracts.specs.Runs.{Ran}
@@ -15,18 +14,20 @@ use Rattle.contracts.specs.Does.{Does}
 use Rattle.ranks.specs.Form.{to_ranked, to_open, rank_up_by, open_by}
 use Rattle.ranks.proofs.Forms.{rank_up_says}
 use Rattle.ranks.proofs.Returns.{ranked_open}
+use Rattle.document.specs.Refusals.{is_open, is_ranked, not_laid_out}
+use Rattle.std.specs.Prelude.{Err, Ok}
 
-ranks_up : {x : Mem} → Follows x → ranked x ≡ false → rank_up_by x ≡ did Done (to_ranked (head x) x)
+ranks_up : {x : Mem} → Follows x → ranked x ≡ false → rank_up_by x ≡ did (Ok tt) (to_ranked (head x) x)
 unfolding rank_up_by
 ranks_up {x} w o =
-    ap (λ (b : Bool). cond b (cond (ranked x) (did (Refused 4) x) (did Done (to_ranked (head x) x))) (did (Refused 3) x)) (follows_walked w)
-    ∙ ap (λ (b : Bool). cond b (did (Refused 4) x) (did Done (to_ranked (head x) x))) o
+    ap (λ (b : Bool). cond b (cond (ranked x) (did (Err is_ranked) x) (did (Ok tt) (to_ranked (head x) x))) (did (Err not_laid_out) x)) (follows_walked w)
+    ∙ ap (λ (b : Bool). cond b (did (Err is_ranked) x) (did (Ok tt) (to_ranked (head x) x))) o
 
-leaves_it : {y : Mem} → Follows y → ranked y ≡ true → open_by y ≡ did Done (to_open (head y) y)
+leaves_it : {y : Mem} → Follows y → ranked y ≡ true → open_by y ≡ did (Ok tt) (to_open (head y) y)
 unfolding open_by
 leaves_it {y} w r =
-    ap (λ (b : Bool). cond b (cond (ranked y) (did Done (to_open (head y) y)) (did (Refused 5) y)) (did (Refused 3) y)) (follows_walked w)
-    ∙ ap (λ (b : Bool). cond b (did Done (to_open (head y) y)) (did (Refused 5) y)) r
+    ap (λ (b : Bool). cond b (cond (ranked y) (did (Ok tt) (to_open (head y) y)) (did (Err is_open) y)) (did (Err not_laid_out) y)) (follows_walked w)
+    ∙ ap (λ (b : Bool). cond b (did (Ok tt) (to_open (head y) y)) (did (Err is_open) y)) r
 
 model_back : {x : Mem} → Follows x → ranked x ≡ false → (open_by (rank_up_by x).after).after ≡ x
 model_back {x} w o =

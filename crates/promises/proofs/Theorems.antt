@@ -12,14 +12,8 @@ use Rattle.document.specs.Union.{Join}
 use Rattle.document.specs.Calls.{Call, Fitting, Ask, Said, whether, many, Refuses, rank_up, leave, iterate, rank_of, listed, check}
 use Rattle.document.specs.Answers.{rank_answer, reply}
 use Rattle.document.specs.declared.sizes.Sizes.{Sizes}
-use Rattle.document.specs.declared.answer.Outcome.{Outcome}
-use Rattle.document.specs.declared.answer.Outcome.TheVariants.{Done, Refused}
-use Rattle.document.specs.declared.answer.Truth.TheVariants.{Is}
-use Rattle.document.specs.declared.answer.Amount.TheVariants as amount
 use Rattle.document.specs.declared.answer.Listing.{Listing}
 use Rattle.document.specs.declared.plan.Plan.{Plan}
-use Rattle.document.specs.declared.plan.Planning.{Planning}
-use Rattle.document.specs.declared.plan.Planning.TheVariants as planning
 use Rattle.document.proofs.Threes.{answer_not_three, reply_not_three, union_not_three, plan_not_three}
 use Rattle.layout.specs.Mem.{Mem}
 use Rattle.layout.specs.Meaning.{state_of}
@@ -58,6 +52,10 @@ use Rattle.promises.proofs.Cutting.{cut_set, spare_bounds}
 use Rattle.promises.proofs.Unions.{union_stays, union_lowest}
 use Rattle.promises.proofs.Listings.{lists_all, ends_soon, some_listed}
 use Rattle.promises.proofs.Cases.{table_says}
+use Rattle.document.specs.Refusals.{is_open, not_laid_out}
+use Rattle.document.specs.Results.{Outcome, Planning}
+use Rattle.std.specs.Prelude.{Err, Ok}
+use Rattle.document.specs.declared.refusal.Refusal.{Refusal}
 
 -- ---- demand 1: memory before fixes answer and memory after, whatever memory is
 
@@ -100,13 +98,13 @@ module _ (x : Mem) where
   refused_stays c a y n d r =
       ap (λ (s : runs.Ran). s.after) d.by ∙ model_stays x c n (subst (λ (b : Said). Refuses b n) (ap (λ (s : runs.Ran). s.answer) d.by) r)
 
-  pub refused_stays_set_up : (h : Sizes) (y : Mem) (n : ℕ) → SetsUp h x (Refused n) y → y ≡ x
+  pub refused_stays_set_up : (h : Sizes) (y : Mem) (n : Refusal) → SetsUp h x (Err n) y → y ≡ x
   refused_stays_set_up h y n s = stays h x s.by
 
-  pub refused_stays_union : (y : Mem) (j : Join) (u v : Mem) (n : ℕ) → Joins x y j (Refused n) u v → (u ≡ x) × (v ≡ y)
+  pub refused_stays_union : (y : Mem) (j : Join) (u v : Mem) (n : Refusal) → Joins x y j (Err n) u v → (u ≡ x) × (v ≡ y)
   refused_stays_union y j u v n d = union_stays x y j n d.by
 
-  pub refused_stays_plan : (S : ℕ) (bs : List ℤ) (cs : List ℤ) (n : ℕ) → Plans x S bs (planning.Refused n) cs → cs ≡ bs
+  pub refused_stays_plan : (S : ℕ) (bs : List ℤ) (cs : List ℤ) (n : Refusal) → Plans x S bs (Err n) cs → cs ≡ bs
   refused_stays_plan S bs cs n p =
       ap (λ (c : Cut). c.bounds) p.by ∙ plan_refused x S bs n (sym (ap (λ (c : Cut). c.answer) p.by))
 
@@ -124,12 +122,12 @@ module _ (x : Mem) where
   )
 
   -- nor boundaries past the last
-  pub spare_stays_plan : (S : ℕ) (bs : List ℤ) (p : Plan) (cs : List ℤ) → Plans x S bs (planning.Made p) cs
+  pub spare_stays_plan : (S : ℕ) (bs : List ℤ) (p : Plan) (cs : List ℤ) → Plans x S bs (Ok p) cs
       → (k : ℕ) → p.partitions - 1 ≤ k → get_or cs k (pos 0) ≡ get_or bs k (pos 0)
   spare_stays_plan S bs p cs h k l = spare_bounds x S bs p cs h k l
 
   -- set_up never answers 3
-  pub never_three_set_up : (h : Sizes) (y : Mem) → SetsUp h x (Refused 3) y → ⊥
+  pub never_three_set_up : (h : Sizes) (y : Mem) → SetsUp h x (Err not_laid_out) y → ⊥
   never_three_set_up h y s = not_three h x s
 
 -- ---- memory that follows the layout
@@ -144,7 +142,7 @@ module _ (x : Mem) (w : Follows x) where
   lowest_free c a y f d = takes-lowest x c a y w f d
 
   -- of a union: first those that become dense, in rising order, then new rows
-  pub lowest_free_union : (y : Mem) → Follows y → (j : Join) (u v : Mem) → Joins x y j Done u v → TakesDenseFirst x u
+  pub lowest_free_union : (y : Mem) → Follows y → (j : Join) (u v : Mem) → Joins x y j (Ok tt) u v → TakesDenseFirst x u
   lowest_free_union y s j u v d = union_lowest x y j w s d.by
 
   -- it is never the cause of a 3
@@ -154,10 +152,10 @@ module _ (x : Mem) (w : Follows x) where
   pub never_three_reading : (k : Ask) (a : Said) → Answers x k a → Refuses a 3 → ⊥
   never_three_reading k a d r = reply_not_three (state_of x) k (subst (λ (b : Said). Refuses b 3) (d.says w) r)
 
-  pub never_three_union : (y : Mem) → Follows y → (j : Join) (u v : Mem) → Joins x y j (Refused 3) u v → ⊥
+  pub never_three_union : (y : Mem) → Follows y → (j : Join) (u v : Mem) → Joins x y j (Err not_laid_out) u v → ⊥
   never_three_union y v j u z d = union_not_three (state_of x) (state_of y) j (sym (d.says w v).said)
 
-  pub never_three_planning : (S : ℕ) (bs : List ℤ) (a : Planning) (cs : List ℤ) → Plans x S bs a cs → a ≡ planning.Refused 3 → ⊥
+  pub never_three_planning : (S : ℕ) (bs : List ℤ) (a : Planning) (cs : List ℤ) → Plans x S bs a cs → a ≡ Err not_laid_out → ⊥
   never_three_planning S bs a cs p e = let s = p.says w in plan_not_three (state_of x) S _ (sym s.answer ∙ e)
 
 -- ---- demand 2: the history of a set that set_up made
@@ -175,7 +173,7 @@ module _ (s : Story) (ran : Happened s) where
   pub reads : (k : Ask) (a : Said) → Answers (last s) k a → a ≡ reply now k
   reads k a d = d.says kept.follows ∙ ap (λ (q : State). reply q k) kept.state
 
-  pub check_says_yes : (a : Said) → Answers (last s) check a → a ≡ whether (Is true)
+  pub check_says_yes : (a : Said) → Answers (last s) check a → a ≡ whether (Ok true)
   check_says_yes a d = reads check a d
 
   -- iteration: records from a start, each from where the last one said, up to the first with the mark, list exactly the members that are not below it, each once, rising
@@ -195,7 +193,7 @@ module _ (s : Story) (ran : Happened s) where
 
   -- in a ranked set the k-th member in rising order, counted from 0, has rank k, and no other member has
   pub nth : now.mode ≡ true → (k : ℕ) → k < total now.members →
-      (n : ℕ) × (now.members n ≡ true) × ((a : Said) → Answers (last s) (rank_of (pos n)) a → a ≡ many (amount.Of k))
+      (n : ℕ) × (now.members n ≡ true) × ((a : Said) → Answers (last s) (rank_of (pos n)) a → a ≡ many (Ok k))
       × ((m : ℕ) → now.members m ≡ true → rank now.members (pos m) ≡ k → m ≡ n)
   unfolding rank rank_answer
   nth o k l =
@@ -205,7 +203,7 @@ module _ (s : Story) (ran : Happened s) where
       let e : count P n ≡ k = w.3 in (
         n,
         w.2,
-        λ a d. reads (rank_of (pos n)) a d ∙ ap (λ (b : Bool). many (cond b (amount.Of (count P n)) (amount.Refused 5))) o ∙ ap (λ (j : ℕ). many (amount.Of j)) e,
+        λ a d. reads (rank_of (pos n)) a d ∙ ap (λ (b : Bool). many (cond b (Ok (count P n)) (Err is_open))) o ∙ ap (λ (j : ℕ). many (Ok j)) e,
         λ m p q. nth_one P m n p w.2 (q ∙ sym e),
       )
 

@@ -4,7 +4,6 @@ use mathlib.Core.Bool.{Bool}
 use Rattle.sums.proofs.Rules.{same_test}
 use Rattle.document.specs.Calls.{Said, whether, many, maybe, listed}
 use Rattle.document.specs.Calls.{Ask, get, range_test, chunk_id, len, is_empty, has_any, chunk_count, iterate, rank_of, rank_if_set, total_count, check}
-use Rattle.document.specs.declared.answer.Truth.TheVariants.{Is}
 use Rattle.layout.specs.Mem.{Mem}
 use Rattle.calls.specs.Reading.{get_by, chunk_of_by}
 use Rattle.calls.specs.Counts.{len_by, is_empty_by, has_any_by, chunks_by}
@@ -15,6 +14,7 @@ use Rattle.contracts.specs.Does.{AskedBy, Answers}
 use Rattle.contracts.proofs.Readings.{answers}
 use Rattle.fullcheck.specs.Check.{checked}
 use Rattle.fullcheck.proofs.Decide.{answered}
+use Rattle.std.specs.Prelude.{Ok}
 
 pub asked_once : (x : Mem) (k : Ask) {a b : Said} → AskedBy x k a → AskedBy x k b → a ≡ b
 asked_once x (get z) p q = p ∙ sym q
@@ -28,7 +28,7 @@ asked_once x (iterate z) p q = p ∙ sym q
 asked_once x (rank_of z) p q = p ∙ sym q
 asked_once x (rank_if_set z) p q = p ∙ sym q
 asked_once x total_count p q = p ∙ sym q
-asked_once x check p q = p.said ∙ ap (λ (b : Bool). whether (Is b)) (same_test p.decides q.decides) ∙ sym q.said
+asked_once x check p q = p.said ∙ ap (λ (b : Bool). whether (Ok b)) (same_test p.decides q.decides) ∙ sym q.said
 
 abbrev pub asked : Mem → Ask → Said
 asked x (get z) = whether (get_by x z)
@@ -42,7 +42,7 @@ asked x (iterate z) = listed (iter_by x z)
 asked x (rank_of z) = many (rank_by x z)
 asked x (rank_if_set z) = maybe (rank_if_by x z)
 asked x total_count = many (total_by x)
-asked x check = whether (Is (checked x))
+asked x check = whether (Ok (checked x))
 
 pub asked_some : (x : Mem) (k : Ask) → Answers x k (asked x k)
 asked_some x (get z) = answers x (get z) refl

@@ -1,5 +1,5 @@
 -- Document 01's worked cases: a to e and i to l at its tiny sizes, and crate sums' e to i about plain sets, rows of one table.
-use Rattle.std.specs.Prelude.{◌≡◌, ℕ, ◌-◌, ◌^◌, List, [], ◌∷◌, ◌++◌, true, false, ℤ, pos, negsuc, length, replicate}
+use Rattle.std.specs.Prelude.{◌≡◌, ℕ, ◌-◌, ◌^◌, List, [], ◌∷◌, ◌++◌, true, false, ℤ, pos, negsuc, length, replicate, Some, None, Ok, Err}
 use Rattle.sums.specs.Cases.{PlainCase, PlainSays, plain_table}
 use Rattle.sums.specs.Members.{fill}
 use Rattle.layout.specs.Mem.{Mem, mem}
@@ -9,11 +9,6 @@ use Rattle.document.specs.State.{Kind, sparse, dense, State, empty}
 use Rattle.layout.specs.Meaning.{kinds, state_of}
 use Rattle.layout.specs.SetUp.{sizes_of, set_up_by}
 use Rattle.document.specs.declared.sizes.Sizes.{Sizes}
-use Rattle.document.specs.declared.answer.Outcome.{Outcome}
-use Rattle.document.specs.declared.answer.Outcome.TheVariants as outcome
-use Rattle.document.specs.declared.answer.Truth.TheVariants as truth
-use Rattle.document.specs.declared.answer.Amount.TheVariants as amount
-use Rattle.document.specs.declared.answer.Perhaps.TheVariants as perhaps
 use Rattle.document.specs.Answers.{answer, after, reply}
 use Rattle.document.specs.Calls.{Call, insert, prepared, prepare, rank_up, Said, whether, that, many, maybe, listed}
 use Rattle.document.specs.Calls.{Ask, range_test, len, has_any, chunk_count, iterate, rank_of, rank_if_set}
@@ -22,6 +17,9 @@ use Rattle.document.specs.Union.{Join, merge_from, merge, union_answer, united, 
 use Rattle.unions.specs.Union.{union_by}
 use Rattle.contracts.specs.Runs.{ran_by}
 use Rattle.contracts.specs.Does.{Answers}
+use Rattle.document.specs.declared.refusal.Refusal.{Refusal}
+use Rattle.document.specs.Refusals.{overflow_full, pages_full, rows_full, not_prepared}
+use Rattle.document.specs.Results.{Outcome}
 
 -- slices of zeros that are just long enough
 abbrev pub tiny : Sizes
@@ -123,13 +121,13 @@ abbrev minus_one : ℤ
 minus_one = negsuc 0
 
 abbrev yes : Said
-yes = whether (truth.Is true)
+yes = whether (Ok true)
 
 abbrev no : Said
-no = whether (truth.Is false)
+no = whether (Ok false)
 
-abbrev refused : ℕ → Said
-refused n = whether (truth.Refused n)
+abbrev refused : Refusal → Said
+refused n = whether (Err n)
 
 abbrev case_a : List Call
 case_a = insert minus_one ∷ inserts (0 ∷ 1 ∷ 2 ∷ 3 ∷ 3 ∷ 4 ∷ [])
@@ -178,26 +176,26 @@ memory_rows =
     ∷ kind (holding (0 ∷ 1 ∷ 2 ∷ 3 ∷ 3 ∷ [])) 0 sparse
     ∷ kind (fresh then case_a) 0 dense
     -- b
-    ∷ calls two_full (inserts (516 ∷ 4 ∷ 1024 ∷ [])) (yes ∷ refused 8 ∷ yes ∷ [])
+    ∷ calls two_full (inserts (516 ∷ 4 ∷ 1024 ∷ [])) (yes ∷ refused pages_full ∷ yes ∷ [])
     ∷ row two_full 1 2
     ∷ page (two_full then inserts (516 ∷ [])) 0 2
     ∷ row (two_full then inserts (516 ∷ [])) 1 0
     ∷ row (two_full then inserts (516 ∷ 4 ∷ 1024 ∷ [])) 1 3
     -- c
-    ∷ calls fresh (inserts (0 ∷ 512 ∷ 1024 ∷ [])) (yes ∷ yes ∷ refused 7 ∷ [])
+    ∷ calls fresh (inserts (0 ∷ 512 ∷ 1024 ∷ [])) (yes ∷ yes ∷ refused rows_full ∷ [])
     -- d
-    ∷ calls (fresh then case_a) (inserts (512 ∷ 1024 ∷ 1536 ∷ [])) (yes ∷ yes ∷ refused 6 ∷ [])
+    ∷ calls (fresh then case_a) (inserts (512 ∷ 1024 ∷ 1536 ∷ [])) (yes ∷ yes ∷ refused overflow_full ∷ [])
     ∷ row (fresh then case_a then inserts (512 ∷ 1024 ∷ [])) 0 2
     ∷ row (fresh then case_a then inserts (512 ∷ 1024 ∷ [])) 1 3
     -- e
-    ∷ asks ranked_four (rank_of (negsuc 2)) (many (amount.Of 0))
-    ∷ asks ranked_four (rank_of (pos 0)) (many (amount.Of 0))
-    ∷ asks ranked_four (rank_of (pos 1)) (many (amount.Of 1))
-    ∷ asks ranked_four (rank_of (pos 9)) (many (amount.Of 3))
-    ∷ asks ranked_four (rank_of (pos 10)) (many (amount.Of 4))
-    ∷ asks ranked_four (rank_of (pos (2 ^ 63 - 1))) (many (amount.Of 4))
-    ∷ asks ranked_four (rank_if_set (pos 7)) (maybe (perhaps.Of 2))
-    ∷ asks ranked_four (rank_if_set (pos 8)) (maybe perhaps.Nothing)
+    ∷ asks ranked_four (rank_of (negsuc 2)) (many (Ok 0))
+    ∷ asks ranked_four (rank_of (pos 0)) (many (Ok 0))
+    ∷ asks ranked_four (rank_of (pos 1)) (many (Ok 1))
+    ∷ asks ranked_four (rank_of (pos 9)) (many (Ok 3))
+    ∷ asks ranked_four (rank_of (pos 10)) (many (Ok 4))
+    ∷ asks ranked_four (rank_of (pos (2 ^ 63 - 1))) (many (Ok 4))
+    ∷ asks ranked_four (rank_if_set (pos 7)) (maybe (Ok (Some 2)))
+    ∷ asks ranked_four (rank_if_set (pos 8)) (maybe (Ok None))
     -- i, and of a ranked set
     ∷ asks zero_alone (range_test (negsuc (2 ^ 63 - 1)) (pos (2 ^ 63 - 1))) yes
     ∷ asks zero_alone (range_test (negsuc 4) (pos 0)) yes
@@ -207,19 +205,19 @@ memory_rows =
     ∷ asks ranked_four (range_test (pos 1) (pos 5)) yes
     -- j
     ∷ asks ready has_any yes
-    ∷ asks ready len (many (amount.Of 0))
-    ∷ calls ready (prepared (pos 3) ∷ prepared (pos 3) ∷ prepared (pos 512) ∷ prepared minus_one ∷ []) (yes ∷ no ∷ refused 9 ∷ refused 9 ∷ [])
-    ∷ calls fresh (prepare (pos 512) ∷ []) (that (outcome.Refused 8) ∷ [])
-    ∷ calls fresh (prepare (pos 1536) ∷ []) (that (outcome.Refused 6) ∷ [])
+    ∷ asks ready len (many (Ok 0))
+    ∷ calls ready (prepared (pos 3) ∷ prepared (pos 3) ∷ prepared (pos 512) ∷ prepared minus_one ∷ []) (yes ∷ no ∷ refused not_prepared ∷ refused not_prepared ∷ [])
+    ∷ calls fresh (prepare (pos 512) ∷ []) (that (Err pages_full) ∷ [])
+    ∷ calls fresh (prepare (pos 1536) ∷ []) (that (Err overflow_full) ∷ [])
     -- k
     ∷ kind (three_with (2 ∷ 3 ∷ [])) 0 sparse
     ∷ asks (three_with (2 ∷ 3 ∷ [])) all_members (exactly (0 ∷ 1 ∷ 2 ∷ 3 ∷ []))
     ∷ kind (three_with (3 ∷ 4 ∷ [])) 0 dense
     ∷ asks (three_with (3 ∷ 4 ∷ [])) all_members (exactly (0 ∷ 1 ∷ 2 ∷ 3 ∷ 4 ∷ []))
     -- l: chunk 0 becomes dense, chunk 2 takes the row that it had; the source stays
-    ∷ unites destination source merge_from outcome.Done
+    ∷ unites destination source merge_from (Ok tt)
     ∷ asks (took destination source merge_from) all_members (exactly (0 ∷ 1 ∷ 2 ∷ 3 ∷ 4 ∷ 512 ∷ 1024 ∷ []))
-    ∷ asks (took destination source merge_from) chunk_count (many (amount.Of 3))
+    ∷ asks (took destination source merge_from) chunk_count (many (Ok 3))
     ∷ kind (took destination source merge_from) 0 dense
     ∷ kind (took destination source merge_from) 1 sparse
     ∷ kind (took destination source merge_from) 2 sparse
@@ -228,7 +226,7 @@ memory_rows =
     ∷ whole (took destination source merge_from) memory_l
     ∷ whole (gave destination source merge_from) (memory source)
     -- by `merge`: the source as set_up left it
-    ∷ unites destination source merge outcome.Done
+    ∷ unites destination source merge (Ok tt)
     ∷ whole (took destination source merge) memory_l
     ∷ whole (gave destination source merge) start
     ∷ []

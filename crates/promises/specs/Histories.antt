@@ -1,5 +1,5 @@
 -- Histories of any number of sets: from a set_up on, step after step, each one that its contract allows on the memory before it; a union takes in another set's history.
-use Rattle.std.specs.Prelude.{◌≡◌, List, ℕ, ℤ, take}
+use Rattle.std.specs.Prelude.{◌≡◌, List, ℕ, ℤ, take, Ok, Err}
 use Rattle.document.specs.Sizes.{InRange}
 use Rattle.document.specs.State.{State, empty}
 use Rattle.document.specs.Refusals.{outside_sizes, too_short}
@@ -11,9 +11,6 @@ use Rattle.document.specs.Plan.{PlansFor}
 use Rattle.document.specs.RangeList.{marks, marks_in, hits}
 use Rattle.document.specs.declared.range.Range.{Range}
 use Rattle.document.specs.declared.sizes.Sizes.{Sizes}
-use Rattle.document.specs.declared.answer.Outcome.{Outcome}
-use Rattle.document.specs.declared.answer.Outcome.TheVariants.{Done, Refused}
-use Rattle.document.specs.declared.plan.Planning.{Planning}
 use Rattle.layout.specs.Mem.{Mem}
 use Rattle.layout.specs.Sizes.{RoomIn}
 use Rattle.layout.specs.Meaning.{state_of}
@@ -24,6 +21,7 @@ use Rattle.range_list.specs.Marks.{MarksByRange, EndsByRange}
 use Rattle.lists.specs.Lists.{ListAsk, open_answer, unless_refused, answered, one_of, AnswersAll}
 use Rattle.lists.specs.Inserts.{in_turn, all_next, after_of, InsertsAll}
 use Rattle.lists.specs.declared.insert.Inserted.{Inserted}
+use Rattle.document.specs.Results.{Outcome, Planning}
 
 -- a call on one set, its answer, and what it leaves of the set, of boundaries, of a range list or of a list of answers; a reading call and its answer
 pub data Step : Type 0 where
@@ -76,7 +74,7 @@ Stepped x (read_all k ids ns a us) = AnswersAll x k ids ns a us
 Stepped x (inserted_all ids a y) = InsertsAll x ids a y
 
 abbrev pub Happened : Story → Type 0
-Happened (made h x y) = SetsUp h x Done y
+Happened (made h x y) = SetsUp h x (Ok tt) y
 Happened (then s t) = Happened s × Stepped (last s) t
 Happened (took s t j a x y) = Happened s × Happened t × Joins (last s) (last t) j a x y
 Happened (gave s t j a x y) = Happened s × Happened t × Joins (last s) (last t) j a x y
@@ -85,8 +83,8 @@ Happened (gave s t j a x y) = Happened s × Happened t × Joins (last s) (last t
 
 -- an accepted set_up makes an empty open set, a refused one leaves the set
 abbrev pub remade : State → Sizes → Outcome → State
-remade q h Done = empty h
-remade q h (Refused n) = q
+remade q h (Ok tt) = empty h
+remade q h (Err n) = q
 
 abbrev pub described_by : State → Step → State
 described_by q (set_up h a y) = remade q h a
@@ -107,9 +105,9 @@ described (gave s t j a x y) = leftover (described t) j a
 
 -- 1, 2, or done
 pub record RightSetUp (h : Sizes) (x : Mem) (a : Outcome) : Type 0 where
-  pub outside : (InRange h → ⊥) → a ≡ Refused outside_sizes
-  pub short : InRange h → (RoomIn h x → ⊥) → a ≡ Refused too_short
-  pub made : InRange h → RoomIn h x → a ≡ Done
+  pub outside : (InRange h → ⊥) → a ≡ Err outside_sizes
+  pub short : InRange h → (RoomIn h x → ⊥) → a ≡ Err too_short
+  pub made : InRange h → RoomIn h x → a ≡ (Ok tt)
 
 -- every answer is document 01's
 abbrev pub RightBy : Mem → State → Step → Type 0
@@ -117,8 +115,8 @@ RightBy x q (set_up h a y) = RightSetUp h x a
 RightBy x q (changed c a y) = a ≡ answer q c
 RightBy x q (read k a) = a ≡ reply q k
 RightBy x q (planned S bs a cs) = PlansFor q S bs a cs
-RightBy x q (marks_set rs a us) = (a ≡ Done) × (us ≡ marks (hits q) rs)
-RightBy x q (ends_set los his ms a ns) = (a ≡ Done) × (ns ≡ marks_in (hits q) los his ms)
+RightBy x q (marks_set rs a us) = (a ≡ (Ok tt)) × (us ≡ marks (hits q) rs)
+RightBy x q (ends_set los his ms a ns) = (a ≡ (Ok tt)) × (ns ≡ marks_in (hits q) los his ms)
 RightBy x q (read_all k ids ns a us) = (a ≡ open_answer q.mode k) × (us ≡ unless_refused a (answered (one_of q k) ids ns) ns)
 RightBy x q (inserted_all ids a y) = a ≡ in_turn new_answer after_of q ids
 

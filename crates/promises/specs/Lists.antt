@@ -1,11 +1,8 @@
 -- Calls over a list beside the single ones: the number that stands for an answer, and single inserts in turn as steps of a history.
-use Rattle.std.specs.Prelude.{◌≡◌, List, [], ◌∷◌, ℕ, ℤ}
+use Rattle.std.specs.Prelude.{◌≡◌, List, [], ◌∷◌, ℕ, ℤ, Some, None, Ok, Err}
 use Rattle.std.specs.Int.{w64}
 use mir.Val.{SFits, bool_byte}
 use Rattle.document.specs.Calls.{insert, Ask, get, rank_of, rank_if_set, Said, whether, that, many, maybe, listed}
-use Rattle.document.specs.declared.answer.Truth.TheVariants as truth
-use Rattle.document.specs.declared.answer.Amount.TheVariants as amount
-use Rattle.document.specs.declared.answer.Perhaps.TheVariants as perhaps
 use Rattle.contracts.specs.Runs.{ran_by}
 use Rattle.lists.specs.Lists.{ListAsk, get_all, rank_all, rank_if_all, no_rank}
 use Rattle.promises.specs.Histories.{changed, Story, then, last}
@@ -18,14 +15,14 @@ ask_of rank_if_all z = rank_if_set z
 
 -- n stands for an answer; nothing stands for a refusal
 abbrev pub Number : Said → ℕ → Type 0
-Number (whether (truth.Is b)) n = n ≡ bool_byte b
-Number (whether (truth.Refused c)) n = ⊥
+Number (whether (Ok b)) n = n ≡ bool_byte b
+Number (whether (Err c)) n = ⊥
 Number (that a) n = ⊥
-Number (many (amount.Of k)) n = n ≡ k
-Number (many (amount.Refused c)) n = ⊥
-Number (maybe (perhaps.Of k)) n = n ≡ k
-Number (maybe perhaps.Nothing) n = n ≡ no_rank
-Number (maybe (perhaps.Refused c)) n = ⊥
+Number (many (Ok k)) n = n ≡ k
+Number (many (Err c)) n = ⊥
+Number (maybe (Ok (Some k))) n = n ≡ k
+Number (maybe (Ok None)) n = n ≡ no_rank
+Number (maybe (Err c)) n = ⊥
 Number (listed r) n = ⊥
 
 -- every id is an i64

@@ -8,8 +8,6 @@ use lib.Dec.{leb, ltb}
 use Rattle.document.specs.Sizes.{top}
 use Rattle.document.specs.Refusals.{not_laid_out}
 use Rattle.document.specs.RangeList.{hits}
-use Rattle.document.specs.declared.answer.Truth.{Truth}
-use Rattle.document.specs.declared.answer.Truth.TheVariants.{Is, Refused}
 use Rattle.layout.specs.Mem.{Mem}
 use Rattle.layout.specs.Sizes.{head}
 use Rattle.layout.specs.Entries.{place_at}
@@ -17,7 +15,6 @@ use Rattle.layout.specs.Short.{spot_on, spot_of}
 use Rattle.layout.specs.Meaning.{state_of}
 use Rattle.layout.specs.Follows.{Follows}
 use Rattle.layout.specs.Tests.{Walked, walked}
-use Rattle.layout.specs.declared.find.Spot.{Spot}
 use Rattle.layout.specs.declared.place.Place.{Place}
 use Rattle.layout.specs.declared.place.Place.TheVariants.{Absent, Sparse, Dense}
 use Rattle.layout.proofs.Tests.{walked_of}
@@ -28,15 +25,18 @@ use Rattle.calls.specs.Range.{chunk_by, entry_from, clip_low, clip_high, any_at,
 use Rattle.calls.proofs.Readings.{shift_ok_law}
 use Rattle.calls.proofs.Ranges.{any_in_range_is}
 use Rattle.range_list.specs.Marks.{is_yes, hit_by}
+use Rattle.document.specs.Results.{Truth}
+use Rattle.layout.specs.Found.{Spotted}
+use Rattle.std.specs.Prelude.{Err, Ok}
 
 -- a yes or no
 abbrev Told : Truth → Type 0
-Told t = t ≡ Is (is_yes t)
+Told t = t ≡ Ok (is_yes t)
 
 or_told : (t r : Truth) → Told t → Told r → Told (or_next t r)
-or_told (Is true) r s n = refl
-or_told (Is false) r s n = n
-or_told (Refused c) r s n = s
+or_told (Ok true) r s n = refl
+or_told (Ok false) r s n = n
+or_told (Err c) r s n = s
 
 if_told : (b : Bool) (t r : Truth) → Told t → Told r → Told (cond b t r)
 if_told true t r s n = s
@@ -62,13 +62,13 @@ module _ {x : Mem} (w : Walked x (head x)) where
         let a = clip_low (top (head x)) lo (chunk_by x e) in
         let b = clip_high (top (head x)) hi (chunk_by x e) in
         ap (any_at x a b) (entry_spot e l) ∙ at_told x a b (place_at (head x) x.table e)
-        ∙ ap (λ (q : Spot). Is (is_yes (any_at x a b q))) (sym (entry_spot e l))
+        ∙ ap (λ (q : Spotted). Ok (is_yes (any_at x a b q))) (sym (entry_spot e l))
 
     run_told : (n e : ℕ) → ((i : ℕ) → e ≤ i → i < e + n → i < entries_of x) → Told (any_run x lo hi n e)
     unfolding any_run
     run_told zero e f = refl
     run_told (suc n) e f =
-        if_told (leb (chunk_by x e) (hi / top (head x))) (or_next (any_entry x lo hi e) (any_run x lo hi n (suc e))) (Is false)
+        if_told (leb (chunk_by x e) (hi / top (head x))) (or_next (any_entry x lo hi e) (any_run x lo hi n (suc e))) (Ok false)
         (or_told (any_entry x lo hi e) (any_run x lo hi n (suc e)) (entry_told e (f e (omega arith) (omega arith))) (run_told n (suc e) (λ i a b. f i (omega arith) (omega arith))))
         refl
 
@@ -77,17 +77,17 @@ module _ {x : Mem} (w : Walked x (head x)) where
     from_told = let k = entry_from x (lo / top (head x)) in run_told (entries_of x - k) k (λ i a b. omega arith)
 
   of_told : (lo hi : ℤ) → Told (any_of x lo hi)
-  of_told (pos a) (pos b) = if_told (ltb b a) (Is false) (any_from x a b) refl (from_told a b)
+  of_told (pos a) (pos b) = if_told (ltb b a) (Ok false) (any_from x a b) refl (from_told a b)
   of_told (negsuc a) (pos b) = from_told 0 b
   of_told (pos a) (negsuc b) = refl
   of_told (negsuc a) (negsuc b) = refl
 
   any_of_law : (lo hi : ℤ) → any_by x lo hi ≡ any_of x lo hi
   unfolding any_by
-  any_of_law lo hi = ap (λ (b : Bool). cond b (any_of x lo hi) (Refused not_laid_out)) entries_ok_law
+  any_of_law lo hi = ap (λ (b : Bool). cond b (any_of x lo hi) (Err not_laid_out)) entries_ok_law
 
 -- the yes or no that `any_in_range` answers
-pub any_told : (x : Mem) → walked x ≡ true → (lo hi : ℤ) → any_by x lo hi ≡ Is (hit_by x lo hi)
+pub any_told : (x : Mem) → walked x ≡ true → (lo hi : ℤ) → any_by x lo hi ≡ Ok (hit_by x lo hi)
 any_told x e lo hi = let w = (walked_of x).sound e in subst Told (sym (any_of_law w lo hi)) (of_told w lo hi)
 
 -- which is the plain set's, where memory follows the layout

@@ -1,4 +1,5 @@
 pub mod AfterWalk
+pub mod Told
 pub mod Upto
 pub mod Records
 pub mod Columns

@@ -1,13 +1,25 @@
-// Marks of a lent list of records. A function that holds such a list is proved by hand, so these two only take records apart: low and high stay.
+// Marks of a lent list of records: low and high stay.
+ghost use Rattle.std.specs.Prelude.{◌≡◌, ℤ, Bool};
+ghost use Rattle.document.specs.RangeList.{marks};
 ghost use Rattle.document.specs.Spans.{ids_answer};
 ghost use Rattle.layout.specs.Mem.{mem};
-ghost use Rattle.range_list.specs.Marks.{MarksByRange, MarksByPartition};
+ghost use Rattle.range_list.specs.Marks.{Tells, MarksByRange, MarksByPartition};
 
 use crate::mark;
-use document::answer::Outcome;
 use document::plan::Plan;
 use document::range::Range;
+use document::refusal::Refusal;
 use intervals::interval;
+
+// Sets each mark by a test of the record's ends.
+fn mark_by<F: Fn(i64, i64) -> bool>(list: &mut [Range], test: F)
+    requires { F.IsAlwaysCallable test }
+    ensures { (f : ℤ → ℤ → Bool) → Tells (F.post test) f → list.new ≡ marks f list.old }
+{
+    for r in list.iter_mut() {
+        r.mark = test(r.low, r.high);
+    }
+}
 
 // Sets each mark by a range test of the set.
 pub fn mark_by_range(
@@ -16,33 +28,23 @@ pub fn mark_by_range(
     rows: &[u32],
     blocks: &[u32],
     table: &[u64],
-) -> Outcome
+) -> Result<(), Refusal>
     ensures { let x = mem pages.now rows.now blocks.now table.now in
         MarksByRange x list.old result list.new }
 {
-    let a = mark::walked(pages, rows, blocks, table);
-    let n = mark::due(a, list.len());
-    let mut i: usize = 0;
-    while i < n {
-        let r = list[i];
-        list[i].mark = mark::hit(r.low, r.high, pages, rows, blocks, table);
-        i += 1;
-    }
-    a
+    mark::walked(pages, rows, blocks, table)?;
+    mark_by(
+        list,
+        |low, high| mark::hit(low, high, pages, rows, blocks, table),
+    );
+    Ok(())
 }
 
 // Sets each mark as `range_meets` answers of partition k.
-pub fn mark_by_partition(list: &mut [Range], p: Plan, bounds: &[i64], k: u64) -> Outcome
+pub fn mark_by_partition(list: &mut [Range], p: Plan, bounds: &[i64], k: u64) -> Result<(), Refusal>
     ensures { MarksByPartition (ids_answer p bounds.now k) list.old result list.new }
 {
-    let i = interval::ids(p, bounds, k);
-    let a = mark::answer(i);
-    let n = mark::due(a, list.len());
-    let mut j: usize = 0;
-    while j < n {
-        let r = list[j];
-        list[j].mark = mark::met(r.low, r.high, i);
-        j += 1;
-    }
-    a
+    let span = interval::ids(p, bounds, k)?;
+    mark_by(list, |low, high| interval::range_meets(low, high, span));
+    Ok(())
 }

@@ -1,11 +1,11 @@
 -- Block counts, a turn at a time; one page's, all pages', and a page's members from its last block. Assumes nothing.
-use mathlib.Core.Path.{◌≡◌, refl, sym, ap, ap₂, ◌∙◌}
+use mathlib.Core.Path.{◌≡◌, refl, ap, ap₂, ◌∙◌}
 use mathlib.Core.List.{List}
-use Prim.Native.Nat.{ℕ, zero, suc, ◌+◌, ◌-◌, ◌*◌, ◌^◌, ◌≤◌, ◌<◌}
+use Prim.Native.Nat.{ℕ, zero, suc, ◌+◌, ◌-◌, ◌*◌, ◌≤◌, ◌<◌}
 use native.Mathlib.Numerals.{add-one}
 use native.Mathlib.Omega.{arith}
-use lib.ListN.{length, get_or, set, take, drop, length-set}
-use Rattle.numbers.proofs.Powers.{Powers, powers, scaled_most}
+use lib.ListN.{length, get_or, set, take, drop}
+use Rattle.numbers.proofs.Powers.{powers}
 use Rattle.dense.specs.Bits.{bits_to}
 use Rattle.dense.proofs.Counts.{bits_zero, bits_le}
 use Rattle.dense.proofs.Parts.{bits_part}
@@ -13,23 +13,16 @@ use Rattle.document.specs.Sizes.{InRange, top}
 use Rattle.layout.specs.Sizes.{wide, blocks_of}
 use Rattle.layout.specs.Places.{page_part}
 use Rattle.document.specs.declared.sizes.Sizes.{Sizes}
-use Rattle.layout_laws.proofs.Sizes.{slot_inside, blocks_top}
+use Rattle.layout_laws.proofs.Sizes.{blocks_top}
 use Rattle.ranks.specs.Form.{blocked, blocked_to}
-use Rattle.ranks.proofs.Blocks.{blocked_length, blocks_at}
+use Rattle.ranks.proofs.Blocks.{blocks_at}
 use Rattle.rank_counts.specs.Counts.{counted, BlocksCounted}
-use Rattle.layout.proofs.Lent.{span, length_lent}
+use Rattle.layout.proofs.Lent.{span}
 
 -- ---- the words of one page
 
--- blocks before b are counted, and sum has their members
-pub record Counted (words start : List ℕ) (k n : ℕ) (now : List ℕ) (sum b : ℕ) : Type 0 where
-  pub most : b ≤ n
-  pub here : now ≡ counted words start k b
-  pub sums : sum ≡ bits_to words (512 * b)
-  pub long : length now ≡ length start
-
 -- one block more
-block_more : (words ws : List ℕ) (b r : ℕ) → ws ≡ take 8 (drop (8 * b) words) → r ≡ bits_to ws 512 → bits_to words (512 * b) + r ≡ bits_to words (512 * (b + 1))
+pub block_more : (words ws : List ℕ) (b r : ℕ) → ws ≡ take 8 (drop (8 * b) words) → r ≡ bits_to ws 512 → bits_to words (512 * b) + r ≡ bits_to words (512 * (b + 1))
 block_more words ws b r e f =
     let p = bits_part (8 * b) 8 words 512 (omega arith) in
     let i : 64 * (8 * b) ≡ 512 * b = omega arith in
@@ -39,26 +32,16 @@ block_more words ws b r e f =
     let z = f ∙ ap (λ (v : List ℕ). bits_to v 512) e in
     omega arith
 
-module _ (words start : List ℕ) (k n : ℕ) where
-  pub counted_start : Counted words start k n start 0 0
+module _ (words blocks : List ℕ) (k : ℕ) where
+  pub counted_none : counted words blocks k 0 ≡ blocks
   unfolding counted
-  counted_start = record { most = omega arith; here = refl; sums = sym (bits_zero words); long = refl }
+  counted_none = refl
 
-  module _ (now : List ℕ) (sum b : ℕ) (c : Counted words start k n now sum b) where
-    pub counted_small : n ≤ 65536 → sum ≤ 33554432
-    counted_small l = let m = c.most in let a = c.sums in let d = bits_le words (512 * b) in omega arith
+  pub counted_next : (b : ℕ) → counted words blocks k (b + 1) ≡ set (counted words blocks k b) (k + b) (bits_to words (512 * b))
+  unfolding counted
+  counted_next b = ap (counted words blocks k) (add-one b)
 
-    pub counted_more : b < n → (v : ℕ) (out ws : List ℕ) (r : ℕ) → v ≡ sum → out ≡ set now (k + b) v → ws ≡ take 8 (drop (8 * b) words) → r ≡ bits_to ws 512 → Counted words start k n out (sum + r) (b + 1)
-    unfolding counted
-    counted_more l v out ws r ev eo ew er = record {
-      most = omega arith;
-      here = eo ∙ (ap₂ (λ (xs : List ℕ) (i : ℕ). set xs (k + b) i) c.here (ev ∙ c.sums) ∙ ap (counted words start k) (sym (add-one b)));
-      sums = ap (λ (i : ℕ). i + r) c.sums ∙ block_more words ws b r ew er;
-      long = ap length eo ∙ (length-set now (k + b) v ∙ c.long);
-    }
-
-    pub counted_end : n ≤ b → now ≡ counted words start k n
-    counted_end l = let m = c.most in let e : b ≡ n = omega arith in c.here ∙ ap (counted words start k) e
+pub ruleset block_turn = (counted_none, counted_next, block_more, bits_zero, bits_le)
 
 -- ---- page p
 
@@ -67,71 +50,42 @@ unfolding counted blocked
 counted_blocked h pages blocks p zero = refl
 counted_blocked h pages blocks p (suc n) = ap (λ (xs : List ℕ). set xs (p * blocks_of h + n) (bits_to (page_part h pages p) (512 * n))) (counted_blocked h pages blocks p n)
 
--- what powers of two h's pages and blocks are
-pub shifts : (h : Sizes) → InRange h → Powers h.s
-shifts h z = powers h.s z.s_low z.s_high
+-- its words, as they are lent
+pub page_words : (h : Sizes) (pages : List ℕ) (p a m : ℕ) → a ≡ p * wide h → m ≡ wide h → take (a + m - a) (drop a pages) ≡ page_part h pages p
+page_words h pages p a m ea em = ap (λ (i : ℕ). take i (drop a pages)) (span a m) ∙ ap₂ (λ (i j : ℕ). take i (drop j pages)) em ea
 
-module _ (h : Sizes) (z : InRange h) (pages : List ℕ) (p : ℕ) (l : p < h.p) (room : h.p * wide h ≤ length pages) (a m : ℕ) (ea : a ≡ p * wide h) (em : m ≡ wide h) where
-  -- the page's words lie in the pool
-  pub page_fits : a + m ≤ length pages
-  page_fits = let s = slot_inside p h.p (wide h) l in omega (arith, ea, em)
+pub page_counted : (h : Sizes) (pages blocks out words : List ℕ) (p k n : ℕ) → words ≡ page_part h pages p → k ≡ p * blocks_of h → n ≡ blocks_of h
+    → out ≡ counted words blocks k n → out ≡ blocked h pages blocks p (blocks_of h)
+page_counted h pages blocks out words p k n ew ek en e =
+    e ∙ (ap (λ (ws : List ℕ). counted ws blocks k n) ew ∙ (ap₂ (counted (page_part h pages p) blocks) ek en ∙ counted_blocked h pages blocks p (blocks_of h)))
 
-  pub page_words : take (a + m - a) (drop a pages) ≡ page_part h pages p
-  page_words = ap (λ (i : ℕ). take i (drop a pages)) (span a m) ∙ ap₂ (λ (i j : ℕ). take i (drop j pages)) em ea
+-- its members, those before its last block and that block's, where v and r are what was read
+module _ (h : Sizes) (z : InRange h) (pages blocks words ws : List ℕ) (told : BlocksCounted h pages blocks) (p k n v r : ℕ) (l : p < h.p) (ew : words ≡ page_part h pages p) (ek : k ≡ p * blocks_of h) (en : n ≡ blocks_of h)
+    (ev : v ≡ get_or blocks (k + (n - 1)) 0) (eb : ws ≡ take 8 (drop (8 * (n - 1)) words)) (er : r ≡ bits_to ws 512) where
+  pub page_total : v + r ≡ bits_to (page_part h pages p) (top h)
+  page_total =
+      let q = powers h.s z.s_low z.s_high in
+      let i : n - 1 < blocks_of h = omega (arith, q.some_blocks) in
+      let j : 512 * (n - 1 + 1) ≡ top h = omega (arith, blocks_top h z, q.some_blocks) in
+      let u = ev ∙ (ap (λ (d : ℕ). get_or blocks (d + (n - 1)) 0) ek ∙ told.at p (n - 1) l i) in
+      let b = block_more (page_part h pages p) ws (n - 1) r (eb ∙ ap (λ (xs : List ℕ). take 8 (drop (8 * (n - 1)) xs)) ew) er in
+      ap (λ (d : ℕ). d + r) u ∙ (b ∙ ap (bits_to (page_part h pages p)) j)
 
-  pub total_small : (t : ℕ) → t ≡ bits_to (page_part h pages p) (top h) → t ≤ 33554432
-  total_small t e = let b = bits_le (page_part h pages p) (top h) in omega (arith, (shifts h z).most)
-
-  -- its block counts begin at k, and there are n
-  module _ (k n : ℕ) (ek : k ≡ p * blocks_of h) (en : n ≡ blocks_of h) where
-    pub page_wide : (1 ≤ n) × (n ≤ 65536) × (k ≤ 2 ^ 47)
-    page_wide =
-        let b = z.p_high in
-        let c = z.s_high in
-        let s = scaled_most p (h.s - 9) (omega arith) (omega arith) in
-        (omega (arith, (shifts h z).some_blocks, en), omega (arith, (shifts h z).most_blocks, en), omega (arith, s, ek))
-
-    pub page_long : length (take (a + m - a) (drop a pages)) ≡ 8 * n
-    page_long = let c = length_lent pages a m page_fits in omega (arith, (shifts h z).block_words, em, en)
-
-    pub page_counted : (blocks out : List ℕ) → out ≡ counted (take (a + m - a) (drop a pages)) blocks k n → out ≡ blocked h pages blocks p (blocks_of h)
-    page_counted blocks out e =
-        e
-        ∙ (ap (λ (ws : List ℕ). counted ws blocks k n) page_words
-        ∙ (ap₂ (counted (page_part h pages p) blocks) ek en ∙ counted_blocked h pages blocks p (blocks_of h)))
-
-    -- its members: those before the last block, and that block's
-    pub page_total : (blocks ws : List ℕ) (v r : ℕ) → BlocksCounted h pages blocks → v ≡ get_or blocks (k + (n - 1)) 0 → ws ≡ take 8 (drop (8 * (n - 1)) (take (a + m - a) (drop a pages))) → r ≡ bits_to ws 512 → v + r ≡ bits_to (page_part h pages p) (top h)
-    page_total blocks ws v r t ev ew er =
-        let some = page_wide.0 in
-        let i : n - 1 < blocks_of h = omega (arith, en) in
-        let j : 512 * (n - 1 + 1) ≡ top h = omega (arith, blocks_top h z, en) in
-        let u = ev ∙ (ap (λ (d : ℕ). get_or blocks (d + (n - 1)) 0) ek ∙ t.at p (n - 1) l i) in
-        let b = block_more (page_part h pages p) ws (n - 1) r (ew ∙ ap (λ (xs : List ℕ). take 8 (drop (8 * (n - 1)) xs)) page_words) er in
-        ap (λ (d : ℕ). d + r) u ∙ (b ∙ ap (bits_to (page_part h pages p)) j)
+  pub total_small : v + r ≤ 33554432
+  total_small = let q = powers h.s z.s_low z.s_high in omega (arith, page_total, bits_le (page_part h pages p) (top h), q.most)
 
 -- ---- all pages
 
-pub record Paged (h : Sizes) (pages start : List ℕ) (n : ℕ) (now : List ℕ) (p : ℕ) : Type 0 where
-  pub most : p ≤ n
-  pub here : now ≡ blocked_to h pages start p
-  pub long : length now ≡ length start
-
-module _ (h : Sizes) (pages start : List ℕ) (n : ℕ) where
-  pub paged_start : Paged h pages start n start 0
+module _ (h : Sizes) (pages blocks : List ℕ) where
+  pub blocked_none : blocked_to h pages blocks 0 ≡ blocks
   unfolding blocked_to
-  paged_start = record { most = omega arith; here = refl; long = refl }
+  blocked_none = refl
 
-  pub paged_more : (now : List ℕ) (p : ℕ) → Paged h pages start n now p → p < n → (out : List ℕ) → out ≡ blocked h pages now p (blocks_of h) → Paged h pages start n out (p + 1)
+  pub blocked_next : (p : ℕ) → blocked_to h pages blocks (p + 1) ≡ blocked h pages (blocked_to h pages blocks p) p (blocks_of h)
   unfolding blocked_to
-  paged_more now p c l out e = record {
-    most = omega arith;
-    here = e ∙ (ap (λ (xs : List ℕ). blocked h pages xs p (blocks_of h)) c.here ∙ ap (blocked_to h pages start) (sym (add-one p)));
-    long = ap length e ∙ (blocked_length h pages now p (blocks_of h) ∙ c.long);
-  }
+  blocked_next p = ap (blocked_to h pages blocks) (add-one p)
 
-  pub paged_end : (now : List ℕ) (p : ℕ) → Paged h pages start n now p → n ≤ p → now ≡ blocked_to h pages start n
-  paged_end now p c l = let m = c.most in let e : p ≡ n = omega arith in c.here ∙ ap (blocked_to h pages start) e
+pub ruleset page_turn = (blocked_none, blocked_next)
 
 -- after which every block is told
 pub all_told : (h : Sizes) (pages start now : List ℕ) → h.p * blocks_of h ≤ length start → now ≡ blocked_to h pages start h.p → BlocksCounted h pages now

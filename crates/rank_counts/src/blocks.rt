@@ -10,19 +10,18 @@ ghost use Rattle.rank_counts.specs.Counts.{counted, BlocksCounted};
 use dense::block;
 use document::sizes::Sizes;
 use layout::head;
-use numbers::{element, order, power};
+use numbers::{element, power};
 
 // The n counts of a page's words, from place k on. Each word is looked at once.
+#[tactic(auto, using(crate::proofs::Counting::block_turn))]
 fn count_words(words: &[u64], blocks: &mut [u32], k: u64, n: u64)
     requires { (8 * n ≤ length words.now) × (n ≤ 65536) × (k ≤ 2 ^ 47) }
     ensures { blocks.new ≡ counted words.now blocks.old k n }
 {
     let mut sum: u64 = 0;
-    let mut b: u64 = 0;
-    while b < n {
-        element::put32(blocks, k + b, order::narrow(sum));
+    for b in 0..n {
+        element::put(blocks, k + b, sum as u32);
         sum += block::block_count(block::block_at(words, (8 * b) as usize));
-        b += 1;
     }
 }
 
@@ -39,15 +38,13 @@ fn count_page(h: Sizes, pages: &[u64], blocks: &mut [u32], p: u64)
 }
 
 // The counts of all pages, free ones too.
+#[tactic(auto, using(crate::proofs::Counting::page_turn))]
 pub fn count_pages(h: Sizes, pages: &[u64], blocks: &mut [u32])
     requires { InRange h × (h.p * wide h ≤ length pages.now) }
     ensures { blocks.new ≡ blocked_to h pages.now blocks.old h.p }
 {
-    let n = h.p;
-    let mut p: u64 = 0;
-    while p < n {
+    for p in 0..h.p {
         count_page(h, pages, blocks, p);
-        p += 1;
     }
 }
 
@@ -59,6 +56,6 @@ pub fn page_size(h: Sizes, pages: &[u64], blocks: &[u32], p: u64) -> u64
     let a = head::page_at(h, p) as usize;
     let last = power::pow2(h.s - 9) - 1;
     let e = a + power::pow2(h.s - 6) as usize;
-    (element::at32(blocks, head::block_at(h, p) + last) as u64)
+    u64::from(element::at(blocks, head::block_at(h, p) + last, 0))
         + block::block_count(block::block_at(&pages[a..e], (8 * last) as usize))
 }

@@ -22,6 +22,7 @@ fn entry_count(table: &[u64], h: Sizes) -> u64
 }
 
 // The members of entry e.
+#[tactic(auto, unfolding(crate::specs::Counts::entry_size))]
 fn entry_size(h: Sizes, pages: &[u64], counts: &[u32], table: &[u64], e: u64) -> u64
     requires { InRange h × (e ≤ 327680)
         × (h.p * wide h ≤ length pages.now) × BlocksCounted h pages.now counts.now × Inside h (place_at h table.now e) }
@@ -35,34 +36,30 @@ fn entry_size(h: Sizes, pages: &[u64], counts: &[u32], table: &[u64], e: u64) ->
 }
 
 // All of them, and the total.
+#[tactic(auto, using(crate::proofs::Writing::entry_turn))]
 pub fn put_prefixes(h: Sizes, pages: &[u64], counts: &[u32], table: &mut [u64]) -> u64
     requires { InRange h × (over_count table.old ≤ 65536)
         × (h.p * wide h ≤ length pages.now) × BlocksCounted h pages.now counts.now × Places h table.old }
     ensures { (result ≡ sum_to (entry_size h pages.now table.old) (entries h table.old)) × (table.new
         ≡ prefixed h table.old (sum_to (entry_size h pages.now table.old)) (entries h table.old)) }
 {
-    let n = entry_count(table, h);
     let mut sum: u64 = 0;
-    let mut e: u64 = 0;
-    while e < n {
+    for e in 0..entry_count(table, h) {
         let k = entry_size(h, pages, counts, table, e);
         write::put_prefix(table, h, e, sum);
         sum += k;
-        e += 1;
     }
     sum
 }
 
 // None of them.
+#[tactic(auto, using(crate::proofs::Writing::entry_turn))]
 pub fn clear_prefixes(h: Sizes, table: &mut [u64])
     requires { InRange h × (over_count table.old ≤ 65536) }
     ensures { table.new ≡ prefixed h table.old (λ _. 0) (entries h table.old) }
 {
-    let n = entry_count(table, h);
-    let mut e: u64 = 0;
-    while e < n {
+    for e in 0..entry_count(table, h) {
         write::put_prefix(table, h, e, 0);
-        e += 1;
     }
 }
 

@@ -1,5 +1,5 @@
 -- Ranking and leaving it: all that is written, the ways to an answer, and what a customer reads. Assumes nothing.
-use mathlib.Core.Path.{◌≡◌, refl, sym, ap, ap₂, subst, ◌∙◌}
+use mathlib.Core.Path.{◌≡◌, refl, ap, ap₂, ◌∙◌}
 use mathlib.Core.List.{List}
 use mathlib.Core.Bool.{Bool, true, false, cond}
 use Prim.Native.Nat.{ℕ, ◌*◌, ◌≤◌}
@@ -15,8 +15,6 @@ use Rattle.layout.specs.SetUp.{Did, did, zeroed}
 use Rattle.document.specs.declared.sizes.Sizes.{Sizes}
 use Rattle.layout.specs.declared.place.Place.{Place}
 use Rattle.layout.specs.declared.place.Place.TheVariants.{Absent, Sparse, Dense}
-use Rattle.document.specs.declared.answer.Outcome.{Outcome}
-use Rattle.document.specs.declared.answer.Outcome.TheVariants.{Done, Refused}
 use Rattle.ranks.specs.Form.{prefixed, headed, blocked_to, to_ranked, to_open, rank_up_by, open_by}
 use Rattle.ranked.specs.Modes.{form_of}
 use Rattle.rank_counts.specs.Counts.{entry_size, Inside, Places}
@@ -24,9 +22,12 @@ use Rattle.document.specs.Calls.{rank_up, leave, that}
 use Rattle.contracts.specs.Runs.{by_outcome}
 use Rattle.contracts.specs.Does.{Does}
 use Rattle.contracts.proofs.Steps.{does}
+use Rattle.document.specs.Refusals.{is_open, is_ranked, not_laid_out}
+use Rattle.document.specs.Results.{Outcome}
+use Rattle.document.specs.declared.refusal.Refusal.{Refusal}
 use Rattle.ranked.specs.declared.mode.Form.{Form}
-use Rattle.ranked.specs.declared.mode.Form.TheVariants.{Open, Ranked, Bad}
-use Rattle.ranked.proofs.Modes.{form_walked}
+use Rattle.ranked.specs.declared.mode.Form.TheVariants.{Open, Ranked}
+use Rattle.std.specs.Prelude.{Err, Ok, Result}
 
 -- ---- what the walk found
 
@@ -54,68 +55,37 @@ all_cleared h x a bl t u ea eb et eu = ap₂ (λ (b v : List ℕ). mem x.pages x
 
 -- ---- the answers
 
-module _ (x : Mem) where
-  abbrev up_by : Form → Did
-  up_by Bad = did (Refused 3) x
-  up_by Ranked = did (Refused 4) x
-  up_by Open = did Done (to_ranked (head x) x)
+module _ (x : Mem) (k : Result Form Refusal) (e : k ≡ form_of x) where
+  abbrev up_by : Result Form Refusal → Did
+  up_by (Err n) = did (Err n) x
+  up_by (Ok Ranked) = did (Err is_ranked) x
+  up_by (Ok Open) = did (Ok tt) (to_ranked (head x) x)
 
-  abbrev RankedUp : Outcome → Mem → Type 0
-  RankedUp a y = Does x rank_up (that a) y
+  abbrev down_by : Result Form Refusal → Did
+  down_by (Err n) = did (Err n) x
+  down_by (Ok Ranked) = did (Ok tt) (to_open (head x) x)
+  down_by (Ok Open) = did (Err is_open) x
 
-  abbrev Opened : Outcome → Mem → Type 0
-  Opened a y = Does x leave (that a) y
-
-  abbrev down_by : Form → Did
-  down_by Bad = did (Refused 3) x
-  down_by Ranked = did Done (to_open (head x) x)
-  down_by Open = did (Refused 5) x
-
-  up_form : (k : Form) → form_of x ≡ k → up_by k ≡ rank_up_by x
+  up_form : up_by k ≡ rank_up_by x
   unfolding form_of rank_up_by
-  up_form k e = ap up_by (sym e) ∙ go (walked x) (eqb (mode_at x.table) 1)
+  up_form = ap up_by e ∙ go (walked x) (eqb (mode_at x.table) 1)
     where
-      go : (g d : Bool) → up_by (cond g (cond d Ranked Open) Bad) ≡ cond g (cond d (did (Refused 4) x) (did Done (to_ranked (head x) x))) (did (Refused 3) x)
+      go : (g d : Bool) → up_by (cond g (cond d (Ok Ranked) (Ok Open)) (Err not_laid_out)) ≡ cond g (cond d (did (Err is_ranked) x) (did (Ok tt) (to_ranked (head x) x))) (did (Err not_laid_out) x)
       go true true = refl
       go true false = refl
       go false d = refl
 
-  down_form : (k : Form) → form_of x ≡ k → down_by k ≡ open_by x
+  down_form : down_by k ≡ open_by x
   unfolding form_of open_by
-  down_form k e = ap down_by (sym e) ∙ go (walked x) (eqb (mode_at x.table) 1)
+  down_form = ap down_by e ∙ go (walked x) (eqb (mode_at x.table) 1)
     where
-      go : (g d : Bool) → down_by (cond g (cond d Ranked Open) Bad) ≡ cond g (cond d (did Done (to_open (head x) x)) (did (Refused 5) x)) (did (Refused 3) x)
+      go : (g d : Bool) → down_by (cond g (cond d (Ok Ranked) (Ok Open)) (Err not_laid_out)) ≡ cond g (cond d (did (Ok tt) (to_open (head x) x)) (did (Err is_open) x)) (did (Err not_laid_out) x)
       go true true = refl
       go true false = refl
       go false d = refl
 
-  ranked_up : (a : Outcome) (y : Mem) → did a y ≡ rank_up_by x → RankedUp a y
-  ranked_up a y e = does x rank_up tt (ap by_outcome e)
+  pub ranked_up : (a : Outcome) (y : Mem) → did a y ≡ up_by k → Does x rank_up (that a) y
+  ranked_up a y q = does x rank_up tt (ap by_outcome (q ∙ up_form))
 
-  opened : (a : Outcome) (y : Mem) → did a y ≡ open_by x → Opened a y
-  opened a y e = does x leave tt (ap by_outcome e)
-
-  pub up_bad : form_of x ≡ Bad → RankedUp (Refused 3) x
-  up_bad e = ranked_up (Refused 3) x (up_form Bad e)
-
-  pub up_ranked : form_of x ≡ Ranked → RankedUp (Refused 4) x
-  up_ranked e = ranked_up (Refused 4) x (up_form Ranked e)
-
-  pub up_open : form_of x ≡ Open → (h : Sizes) (y : Mem) → h ≡ head x → y ≡ to_ranked h x → RankedUp Done y
-  up_open e h y f g = ranked_up Done y (ap (did Done) (g ∙ ap (λ (k : Sizes). to_ranked k x) f) ∙ up_form Open e)
-
-  pub down_bad : form_of x ≡ Bad → Opened (Refused 3) x
-  down_bad e = opened (Refused 3) x (down_form Bad e)
-
-  pub down_open : form_of x ≡ Open → Opened (Refused 5) x
-  down_open e = opened (Refused 5) x (down_form Open e)
-
-  pub down_ranked : form_of x ≡ Ranked → (h : Sizes) (y : Mem) → h ≡ head x → y ≡ to_open h x → Opened Done y
-  down_ranked e h y f g = opened Done y (ap (did Done) (g ∙ ap (λ (k : Sizes). to_open k x) f) ∙ down_form Ranked e)
-
-  -- the walk found nothing wrong
-  pub open_walked : form_of x ≡ Open → (h : Sizes) → h ≡ head x → Walked x h
-  open_walked e h f = subst (Walked x) (sym f) (form_walked x Open e (λ (q : Open ≡ Bad). let z : ◌≡◌ {A = ℕ} 0 1 = cc in omega arith))
-
-  pub ranked_walked : form_of x ≡ Ranked → (h : Sizes) → h ≡ head x → Walked x h
-  ranked_walked e h f = subst (Walked x) (sym f) (form_walked x Ranked e (λ (q : Ranked ≡ Bad). let z : ◌≡◌ {A = ℕ} 0 1 = cc in omega arith))
+  pub opened : (a : Outcome) (y : Mem) → did a y ≡ down_by k → Does x leave (that a) y
+  opened a y q = does x leave tt (ap by_outcome (q ∙ down_form))

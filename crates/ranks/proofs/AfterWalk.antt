@@ -12,7 +12,6 @@ use borrow.Author.Tests.{lt-ltb, le-leb}
 use Rattle.numbers.specs.Ids.{split_of}
 use Rattle.dense.specs.Bits.{bits_to}
 use Rattle.document.specs.Sizes.{top}
-use Rattle.document.specs.declared.answer.Amount.TheVariants as amount
 use Rattle.layout.specs.Mem.{Mem}
 use Rattle.layout.specs.Sizes.{wide, blocks_of, head, mode_at}
 use Rattle.layout.specs.Places.{page_part}
@@ -20,7 +19,6 @@ use Rattle.layout.specs.Entries.{word_of, place_of}
 use Rattle.layout.specs.Meaning.{ranked}
 use Rattle.layout.specs.Follows.{Owned}
 use Rattle.layout.specs.Tests.{Walked}
-use Rattle.layout.specs.declared.find.Spot.{Spot}
 use Rattle.layout.specs.declared.place.Place.{Place}
 use Rattle.layout.specs.declared.place.Place.TheVariants.{Absent, Sparse, Dense}
 use Rattle.layout.specs.Short.{spot_on}
@@ -31,6 +29,9 @@ use Rattle.layout_laws.proofs.Walked.{first_fits}
 use Rattle.calls.specs.Reading.{spot_by, shift_ok}
 use Rattle.ranks.specs.Rank.{in_page, below_at, plus_before, rank_seat, rank_split, rank_by, below_place, rank_in}
 use Rattle.ranks.proofs.Seats.{seat_is}
+use Rattle.document.specs.Refusals.{is_open, not_laid_out}
+use Rattle.layout.specs.Found.{Spotted}
+use Rattle.std.specs.Prelude.{Err, Ok}
 
 module _ {x : Mem} (w : Walked x (head x)) where
   pub tests_pass : (shift_ok x.table && leb (mode_at x.table) 1) ≡ true
@@ -39,7 +40,7 @@ module _ {x : Mem} (w : Walked x (head x)) where
   -- ---- one chunk
 
   module _ (c o : ℕ) (l : o < top (head x)) where
-    page_told : (p : ℕ) → p < (head x).p → in_page x (p * wide (head x)) (wide (head x)) o ≡ amount.Of (below_place x o (Dense p))
+    page_told : (p : ℕ) → p < (head x).p → in_page x (p * wide (head x)) (wide (head x)) o ≡ Ok (below_place x o (Dense p))
     page_told p m =
         let a = blocks_wide (head x) w.sizes in
         let b = blocks_top (head x) w.sizes in
@@ -48,11 +49,11 @@ module _ {x : Mem} (w : Walked x (head x)) where
         let i = w.room.in_blocks in
         let s = slot_inside p (head x).p (blocks_of (head x)) m in
         let block = bits_to (take 8 (drop (o / 512 * 8) (page_part (head x) x.pages p))) (o % 512) in
-        ap (λ (k : ℕ). cond (ltb (k + o / 512) (length x.blocks)) (amount.Of (get_or x.blocks (k + o / 512) 0 + block)) (amount.Refused 3)) e
-        ∙ ap (λ (t : Bool). cond t (amount.Of (get_or x.blocks (p * blocks_of (head x) + o / 512) 0 + block)) (amount.Refused 3))
+        ap (λ (k : ℕ). cond (ltb (k + o / 512) (length x.blocks)) (Ok (get_or x.blocks (k + o / 512) 0 + block)) (Err not_laid_out)) e
+        ∙ ap (λ (t : Bool). cond t (Ok (get_or x.blocks (p * blocks_of (head x) + o / 512) 0 + block)) (Err not_laid_out))
         (lt-ltb (p * blocks_of (head x) + o / 512) (length x.blocks) (omega arith))
 
-    pub below_told : (q : Place) → Owned (head x) x.table c q → below_at x o (spot_on (head x) q) ≡ amount.Of (below_place x o q)
+    pub below_told : (q : Place) → Owned (head x) x.table c q → below_at x o (spot_on (head x) q) ≡ Ok (below_place x o q)
     below_told Absent u = refl
     below_told (Sparse r k) u = refl
     below_told (Dense p) u = page_told p u.there
@@ -67,19 +68,19 @@ module _ {x : Mem} (w : Walked x (head x)) where
     o = n % top (head x)
 
     -- what the chunk's seat says
-    pub seat_told : plus_before (first_rank x (n / top (head x))) (below_at x (n % top (head x)) (spot_by x (word_of (head x) x.table (n / top (head x))))) ≡ amount.Of (rank_in x n)
+    pub seat_told : plus_before (first_rank x (n / top (head x))) (below_at x (n % top (head x)) (spot_by x (word_of (head x) x.table (n / top (head x))))) ≡ Ok (rank_in x n)
     unfolding rank_in
     seat_told =
         let below = below_place x o (place_of (head x) x.table c) in
-        ap (λ (q : Spot). plus_before (first_rank x c) (below_at x o q)) (spot_is w c)
+        ap (λ (q : Spotted). plus_before (first_rank x c) (below_at x o q)) (spot_is w c)
         ∙ ap (plus_before (first_rank x c)) (below_told c o (mod-lt n (pow_pos (head x).s)) (place_of (head x) x.table c) (owned_of w c))
-        ∙ ap (λ (b : Bool). cond b (amount.Of (first_rank x c + below)) (amount.Refused 3)) (lt-ltb (first_rank x c) (2 ^ 63) (first_fits w r c))
+        ∙ ap (λ (b : Bool). cond b (Ok (first_rank x c + below)) (Err not_laid_out)) (lt-ltb (first_rank x c) (2 ^ 63) (first_fits w r c))
 
-    pub split_told : rank_split x (split_of (head x).s (pos n)) ≡ amount.Of (rank_in x n)
+    pub split_told : rank_split x (split_of (head x).s (pos n)) ≡ Ok (rank_in x n)
     split_told = ap (rank_seat x o) (seat_is w c) ∙ seat_told
 
-    pub rank_told : rank_by x (pos n) ≡ amount.Of (rank_in x n)
+    pub rank_told : rank_by x (pos n) ≡ Ok (rank_in x n)
     unfolding rank_by
     rank_told =
         let a = rank_split x (split_of (head x).s (pos n)) in
-        ap₂ (λ (t b : Bool). cond t (cond b a (amount.Refused 5)) (amount.Refused 3)) tests_pass r ∙ split_told
+        ap₂ (λ (t b : Bool). cond t (cond b a (Err is_open)) (Err not_laid_out)) tests_pass r ∙ split_told

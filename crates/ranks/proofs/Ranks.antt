@@ -15,11 +15,6 @@ use Rattle.layout.specs.Entries.{word_of, place_of}
 use Rattle.layout.specs.Meaning.{holds, ranked, state_of}
 use Rattle.layout.specs.Follows.{Follows}
 use Rattle.document.specs.Refusals.{not_laid_out, is_open}
-use Rattle.document.specs.declared.answer.Truth.{Truth}
-use Rattle.document.specs.declared.answer.Truth.TheVariants as truth
-use Rattle.document.specs.declared.answer.Amount.{Amount}
-use Rattle.document.specs.declared.answer.Amount.TheVariants as amount
-use Rattle.document.specs.declared.answer.Perhaps.TheVariants as perhaps
 use Rattle.layout_laws.specs.Chunks.{first_rank}
 use Rattle.layout_laws.proofs.Walked.{laid_walked}
 use Rattle.layout_laws.proofs.Short.{owned_of, spot_is}
@@ -32,14 +27,17 @@ use Rattle.document.specs.Answers.{perhaps_rank, rank_answer, rank_if_answer, to
 use Rattle.ranks.proofs.Seats.{seat_is}
 use Rattle.ranks.proofs.Within.{below_is}
 use Rattle.ranks.proofs.AfterWalk.{tests_pass, seat_told, split_told}
+use Rattle.document.specs.Results.{Amount, Truth}
+use Rattle.std.specs.Prelude.{Err, None, Ok, Result, Some}
+use Rattle.document.specs.declared.refusal.Refusal.{Refusal}
 
 -- ---- tests before an answer
 
 module _ {x : Mem} (w : Follows x) where
-  pub if_ranked_law : {A : Type 0} (refuse : ℕ → A) (a b : A) → (ranked x ≡ true → a ≡ b) → if_ranked x.table refuse a ≡ cond (ranked x) b (refuse is_open)
-  if_ranked_law {A} refuse a b h = ap (λ (t : Bool). cond t (cond (ranked x) a (refuse is_open)) (refuse not_laid_out)) (tests_pass (laid_walked w)) ∙ go (ranked x) refl
+  pub if_ranked_law : {A : Type 0} (a b : Result A Refusal) → (ranked x ≡ true → a ≡ b) → if_ranked x.table a ≡ cond (ranked x) b (Err is_open)
+  if_ranked_law {A} a b h = ap (λ (t : Bool). cond t (cond (ranked x) a (Err is_open)) (Err not_laid_out)) (tests_pass (laid_walked w)) ∙ go (ranked x) refl
     where
-      go : (t : Bool) → ranked x ≡ t → cond t a (refuse is_open) ≡ cond t b (refuse is_open)
+      go : (t : Bool) → ranked x ≡ t → cond t a (Err is_open) ≡ cond t b (Err is_open)
       go true e = h e
       go false e = refl
 
@@ -63,17 +61,17 @@ module _ {x : Mem} (w : Follows x) where
           ∙ sym (count_rank w n)
 
       -- what the chunk's seat says
-      rank_at : plus_before (first_rank x c) (below_at x o (spot_by x (word_of (head x) x.table c))) ≡ amount.Of (count (holds x) n)
-      rank_at = seat_told (laid_walked w) r n ∙ ap amount.Of in_count
+      rank_at : plus_before (first_rank x c) (below_at x o (spot_by x (word_of (head x) x.table c))) ≡ Ok (count (holds x) n)
+      rank_at = seat_told (laid_walked w) r n ∙ ap Ok in_count
 
-      has_here : has_at x o (spot_by x (word_of (head x) x.table c)) ≡ truth.Is (holds x n)
+      has_here : has_at x o (spot_by x (word_of (head x) x.table c)) ≡ Ok (holds x n)
       unfolding holds
       has_here = ap (has_at x o) (spot_is (laid_walked w) c) ∙ has_at_law (head x) x (place_of (head x) x.table c) o (listed_of w c)
 
-      rank_id : rank_split x (split_of (head x).s (pos n)) ≡ amount.Of (count (holds x) n)
-      rank_id = split_told (laid_walked w) r n ∙ ap amount.Of in_count
+      rank_id : rank_split x (split_of (head x).s (pos n)) ≡ Ok (count (holds x) n)
+      rank_id = split_told (laid_walked w) r n ∙ ap Ok in_count
 
-      if_set : (b : Bool) (k : ℕ) → cond b (perhaps.Of k) perhaps.Nothing ≡ perhaps_rank (cond b (ids.RankIf.ranked k) ids.RankIf.none)
+      if_set : (b : Bool) (k : ℕ) → cond b (Ok (Some k)) (Ok None) ≡ perhaps_rank (cond b (ids.RankIf.ranked k) ids.RankIf.none)
       if_set true k = refl
       if_set false k = refl
 
@@ -84,7 +82,7 @@ module _ {x : Mem} (w : Follows x) where
           ∙ ap₂ (λ (b : Truth) (a : Amount). if_there b (perhaps_of a)) has_here rank_at
           ∙ if_set (holds x n) (count (holds x) n)
 
-    rank_split_law : (z : ℤ) → rank_split x (split_of (head x).s z) ≡ amount.Of (rank (holds x) z)
+    rank_split_law : (z : ℤ) → rank_split x (split_of (head x).s z) ≡ Ok (rank (holds x) z)
     unfolding rank
     rank_split_law (pos n) = rank_id n
     rank_split_law (negsuc n) = refl
@@ -101,12 +99,12 @@ module _ {x : Mem} (w : Follows x) where
 
   pub rank_is : (z : ℤ) → rank_by x z ≡ rank_answer (state_of x) z
   unfolding rank_by rank_answer
-  rank_is z = if_ranked_law amount.Refused (rank_split x (split_of (head x).s z)) (amount.Of (rank (holds x) z)) (λ r. rank_split_law r z)
+  rank_is z = if_ranked_law (rank_split x (split_of (head x).s z)) (Ok (rank (holds x) z)) (λ r. rank_split_law r z)
 
   pub rank_if_is : (z : ℤ) → rank_if_by x z ≡ rank_if_answer (state_of x) z
   unfolding rank_if_by rank_if_answer
-  rank_if_is z = if_ranked_law perhaps.Refused (rank_if_split x (split_of (head x).s z)) (perhaps_rank (rank_if (holds x) z)) (λ r. rank_if_split_law r z)
+  rank_if_is z = if_ranked_law (rank_if_split x (split_of (head x).s z)) (perhaps_rank (rank_if (holds x) z)) (λ r. rank_if_split_law r z)
 
   pub total_is : total_by x ≡ total_answer (state_of x)
   unfolding total_by total_answer
-  total_is = if_ranked_law amount.Refused (amount.Of (total_at x.table)) (amount.Of (total (holds x))) (λ r. ap amount.Of (total_rank w r))
+  total_is = if_ranked_law (Ok (total_at x.table)) (Ok (total (holds x))) (λ r. ap Ok (total_rank w r))

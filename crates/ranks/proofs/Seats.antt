@@ -14,8 +14,13 @@ use Rattle.layout.specs.Short.{key_at, over_place}
 use Rattle.layout_laws.specs.Chunks.{first_entry, first_rank}
 use Rattle.layout_laws.proofs.Entries.{walked_ordered, word_direct, word_of_direct, prefix_direct, prefix_over}
 use Rattle.layout_laws.proofs.Short.{over_word_is, entries_inside}
+use Rattle.layout.specs.Found.{Seat}
 use Rattle.layout.specs.Seat.{direct_seat, over_seat, overflow_seat, seat_in}
-use Rattle.layout.specs.declared.seat.Seat.TheVariants as seat
+use Rattle.document.specs.Refusals.{not_laid_out}
+use Rattle.std.specs.Prelude.{Err, Ok}
+
+abbrev seated : ℕ → ℕ → Seat
+seated a b = Ok (a, b)
 
 module _ {x : Mem} (w : Walked x (head x)) (c : ℕ) where
   -- the first entry from e on, or past the last one the total
@@ -51,32 +56,32 @@ module _ {x : Mem} (w : Walked x (head x)) (c : ℕ) where
     unfolding from_entry
     first_past m = first_over ∙ ap (λ (b : Bool). cond b (prefix_at (head x) x.table ((head x).d + k)) (total_at x.table)) (le-ltb ((head x).d + k) (entries (head x) x.table) (omega arith))
 
-    over_seat_law : over_seat x.table (16 + 2 * (head x).d) (over_count x.table) c k ≡ seat.At (word_of (head x) x.table c) (first_rank x c)
+    over_seat_law : over_seat x.table (16 + 2 * (head x).d) (over_count x.table) c k ≡ seated (word_of (head x) x.table c) (first_rank x c)
     over_seat_law = go (ltb k (over_count x.table)) refl (over_word_is (head x) x.table (walked_ordered w) c l)
       where
         go : (b : Bool) → ltb k (over_count x.table) ≡ b
             → cond (ltb k (over_count x.table) && eqb (key_at x.table (16 + 2 * (head x).d) k) c) own 0 ≡ word_of (head x) x.table c
-            → cond (ltb k (over_count x.table)) (seat.At (cond (eqb (key_at x.table (16 + 2 * (head x).d) k) c) own 0) (get_or x.table (16 + 2 * (head x).d + 3 * k + 2) 0)) (seat.At 0 (total_at x.table))
-            ≡ seat.At (word_of (head x) x.table c) (first_rank x c)
+            → cond (ltb k (over_count x.table)) (seated (cond (eqb (key_at x.table (16 + 2 * (head x).d) k) c) own 0) (get_or x.table (16 + 2 * (head x).d + 3 * k + 2) 0)) (seated 0 (total_at x.table))
+            ≡ seated (word_of (head x) x.table c) (first_rank x c)
         go true e q =
-            ap (λ (b : Bool). cond b (seat.At (cond (eqb (key_at x.table (16 + 2 * (head x).d) k) c) own 0) (get_or x.table (16 + 2 * (head x).d + 3 * k + 2) 0)) (seat.At 0 (total_at x.table))) e
-            ∙ ap₂ seat.At (ap (λ (b : Bool). cond (b && eqb (key_at x.table (16 + 2 * (head x).d) k) c) own 0) (sym e) ∙ q) (sym (first_there (ltb-true k (over_count x.table) e)))
+            ap (λ (b : Bool). cond b (seated (cond (eqb (key_at x.table (16 + 2 * (head x).d) k) c) own 0) (get_or x.table (16 + 2 * (head x).d + 3 * k + 2) 0)) (seated 0 (total_at x.table))) e
+            ∙ ap₂ seated (ap (λ (b : Bool). cond (b && eqb (key_at x.table (16 + 2 * (head x).d) k) c) own 0) (sym e) ∙ q) (sym (first_there (ltb-true k (over_count x.table) e)))
         go false e q =
-            ap (λ (b : Bool). cond b (seat.At (cond (eqb (key_at x.table (16 + 2 * (head x).d) k) c) own 0) (get_or x.table (16 + 2 * (head x).d + 3 * k + 2) 0)) (seat.At 0 (total_at x.table))) e
-            ∙ ap₂ seat.At (ap (λ (b : Bool). cond (b && eqb (key_at x.table (16 + 2 * (head x).d) k) c) own 0) (sym e) ∙ q) (sym (first_past (ltb-false k (over_count x.table) e)))
+            ap (λ (b : Bool). cond b (seated (cond (eqb (key_at x.table (16 + 2 * (head x).d) k) c) own 0) (get_or x.table (16 + 2 * (head x).d + 3 * k + 2) 0)) (seated 0 (total_at x.table))) e
+            ∙ ap₂ seated (ap (λ (b : Bool). cond (b && eqb (key_at x.table (16 + 2 * (head x).d) k) c) own 0) (sym e) ∙ q) (sym (first_past (ltb-false k (over_count x.table) e)))
 
-  pub seat_is : seat_in x.table c ≡ seat.At (word_of (head x) x.table c) (first_rank x c)
+  pub seat_is : seat_in x.table c ≡ seated (word_of (head x) x.table c) (first_rank x c)
   unfolding seat_in
   seat_is = go (ltb c (head x).d) refl
     where
-      go : (b : Bool) → ltb c (head x).d ≡ b → cond b (direct_seat x.table c) (overflow_seat x.table (head x).d c) ≡ seat.At (word_of (head x) x.table c) (first_rank x c)
+      go : (b : Bool) → ltb c (head x).d ≡ b → cond b (direct_seat x.table c) (overflow_seat x.table (head x).d c) ≡ seated (word_of (head x) x.table c) (first_rank x c)
       go true e =
           let l = ltb-true c (head x).d e in
           let r = w.room.in_table in
-          ap (λ (b : Bool). cond b (seat.At (get_or x.table (direct_at c) 0) (get_or x.table (direct_at c + 1) 0)) seat.Bad) (lt-ltb (direct_at c + 1) (length x.table) (omega arith))
-          ∙ ap₂ seat.At (sym (word_of_direct (head x) x.table (walked_ordered w) c l ∙ word_direct (head x) x.table c l)) (sym (first_direct l))
+          ap (λ (b : Bool). cond b (seated (get_or x.table (direct_at c) 0) (get_or x.table (direct_at c + 1) 0)) (Err not_laid_out)) (lt-ltb (direct_at c + 1) (length x.table) (omega arith))
+          ∙ ap₂ seated (sym (word_of_direct (head x) x.table (walked_ordered w) c l ∙ word_direct (head x) x.table c l)) (sym (first_direct l))
       go false e =
           let l = ltb-false c (head x).d e in
-          ap (λ (b : Bool). cond b (over_seat x.table (16 + 2 * (head x).d) (over_count x.table) c (k l)) seat.Bad)
+          ap (λ (b : Bool). cond b (over_seat x.table (16 + 2 * (head x).d) (over_count x.table) c (k l)) (Err not_laid_out))
           (entries_inside x w.sizes w.room w.over_fits)
           ∙ over_seat_law l

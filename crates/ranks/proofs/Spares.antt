@@ -14,11 +14,12 @@ use Rattle.layout.specs.Tests.{walked}
 use Rattle.layout.specs.SetUp.{did}
 use Rattle.layout.specs.Spare.{Beyond, Spare}
 use Rattle.document.specs.declared.sizes.Sizes.{Sizes}
-use Rattle.document.specs.declared.answer.Outcome.TheVariants.{Done, Refused}
 use Rattle.layout.proofs.Tests.{walked_of}
 use Rattle.layout_laws.proofs.Spares.{beyond_same, beyond_then, header_beyond, prefix_beyond, zeroed_beyond, spare_same, spare_if}
 use Rattle.ranks.specs.Form.{prefixed, headed, blocked_to, to_ranked, to_open, rank_up_by, open_by}
 use Rattle.ranks.proofs.Blocks.{blocks_length, blocks_past}
+use Rattle.document.specs.Refusals.{is_open, is_ranked, not_laid_out}
+use Rattle.std.specs.Prelude.{Err, Ok}
 
 -- ---- the writes
 
@@ -68,15 +69,15 @@ module _ (x : Mem) where
   pub rank_up_by_spare : Spare (head x) x (rank_up_by x).after
   unfolding rank_up_by
   rank_up_by_spare =
-      spare_if (walked x) (cond (eqb (mode_at x.table) 1) (did (Refused 4) x) (did Done (to_ranked (head x) x))) (did (Refused 3) x)
-      (λ w. spare_if (eqb (mode_at x.table) 1) (did (Refused 4) x) (did Done (to_ranked (head x) x)) (λ m. spare_same)
+      spare_if (walked x) (cond (eqb (mode_at x.table) 1) (did (Err is_ranked) x) (did (Ok tt) (to_ranked (head x) x))) (did (Err not_laid_out) x)
+      (λ w. spare_if (eqb (mode_at x.table) 1) (did (Err is_ranked) x) (did (Ok tt) (to_ranked (head x) x)) (λ m. spare_same)
       (λ m. ranked_spare (head x) x ((walked_of x).sound w).over_fits))
       (λ w. spare_same)
 
   pub open_by_spare : Spare (head x) x (open_by x).after
   unfolding open_by
   open_by_spare =
-      spare_if (walked x) (cond (eqb (mode_at x.table) 1) (did Done (to_open (head x) x)) (did (Refused 5) x)) (did (Refused 3) x)
-      (λ w. spare_if (eqb (mode_at x.table) 1) (did Done (to_open (head x) x)) (did (Refused 5) x)
+      spare_if (walked x) (cond (eqb (mode_at x.table) 1) (did (Ok tt) (to_open (head x) x)) (did (Err is_open) x)) (did (Err not_laid_out) x)
+      (λ w. spare_if (eqb (mode_at x.table) 1) (did (Ok tt) (to_open (head x) x)) (did (Err is_open) x)
       (λ m. open_spare (head x) x ((walked_of x).sound w).over_fits ((walked_of x).sound w).room.in_blocks) (λ m. spare_same))
       (λ w. spare_same)

@@ -1,5 +1,5 @@
 -- `into_ranked` and leaving the ranked form on any memory: a walk, then folds over entries and pages.
-use Rattle.std.specs.Prelude.{ℕ, zero, suc, ◌+◌, ◌*◌, List, cond, set, eqb}
+use Rattle.std.specs.Prelude.{ℕ, zero, suc, ◌+◌, ◌*◌, List, cond, set, eqb, Ok, Err}
 use Rattle.sums.specs.Sums.{sum_to}
 use Rattle.dense.specs.Bits.{bits_to}
 use Rattle.layout.specs.Mem.{Mem, mem}
@@ -12,7 +12,6 @@ use Rattle.layout.specs.SetUp.{Did, did, zeroed}
 use Rattle.layout.specs.Writes.{put_mode, put_total}
 use Rattle.document.specs.Refusals.{not_laid_out, is_ranked, is_open}
 use Rattle.document.specs.declared.sizes.Sizes.{Sizes}
-use Rattle.document.specs.declared.answer.Outcome.TheVariants.{Done, Refused}
 
 -- f e as the prefix of entry e, for the first n
 unfoldable pub prefixed : Sizes → List ℕ → (ℕ → ℕ) → ℕ → List ℕ
@@ -45,8 +44,8 @@ to_open h x =
 
 -- 3, then 4
 unfoldable pub rank_up_by : Mem → Did
-rank_up_by x = cond (walked x) (cond (eqb (mode_at x.table) 1) (did (Refused is_ranked) x) (did Done (to_ranked (head x) x))) (did (Refused not_laid_out) x)
+rank_up_by x = cond (walked x) (cond (eqb (mode_at x.table) 1) (did (Err is_ranked) x) (did (Ok tt) (to_ranked (head x) x))) (did (Err not_laid_out) x)
 
 -- 3, then 5
 unfoldable pub open_by : Mem → Did
-open_by x = cond (walked x) (cond (eqb (mode_at x.table) 1) (did Done (to_open (head x) x)) (did (Refused is_open) x)) (did (Refused not_laid_out) x)
+open_by x = cond (walked x) (cond (eqb (mode_at x.table) 1) (did (Ok tt) (to_open (head x) x)) (did (Err is_open) x)) (did (Err not_laid_out) x)

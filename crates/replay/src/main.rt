@@ -1,126 +1,95 @@
 // Replays calls: one a line from standard input, one answer a line to standard output (docs/REPLAY.md).
-// Pools go by the letters that `dump` shows: p pages, r rows, b block counts, t table, c boundaries.
 #![tactic(auto)]
 
 mod call;
 mod many;
 mod marks;
-mod pair;
 mod partition;
 
-ghost use Rattle.std.specs.Prelude.{◌≡◌, ◌≤◌, length};
-
-use replies::{input, say, told, verb};
+use exports::{number, read};
+use lines::words;
+use replies::input::Input;
+use replies::memory::Pools;
+use replies::told::Told;
+use replies::verb::Verb;
+use replies::{say, verb};
 use std::io;
-use std::io::{Stdin, Stdout};
+use std::io::{Stdout, Write};
 
-// A line on the set that these slices hold.
+// `slots b`
+fn slots(line: &[u8]) -> u64 {
+    number::bp_slots_for_budget(words::number_or(line, 1, 0))
+}
+
+// `bounded claim length perbyte`
+fn bounded(line: &[u8]) -> i64 {
+    let claim = words::id_or(line, 1, 0);
+    let length = words::number_or(line, 2, 0);
+    let per = words::number_or(line, 3, 0);
+    number::bp_file_bounded_max_id(claim, length, per)
+}
+
+// `check K`
+fn check(set: &Pools) -> &'static str {
+    if read::bp_check(&set.pages, &set.rows, &set.blocks, &set.table) {
+        "yes"
+    } else {
+        "no"
+    }
+}
+
+// A call on a set, and maybe on the other.
 fn on(
     out: &mut Stdout,
-    v: u64,
+    verb: Verb,
     line: &[u8],
-    p: &mut [u64],
-    r: &mut [u32],
-    b: &mut [u32],
-    t: &mut [u64],
-    c: &mut [i64],
+    set: &mut Pools,
+    other: &mut Pools,
 ) -> io::Result<()> {
-    match v {
-        0..=7 => say::answer(out, v, call::changes(v, line, p, r, b, t)),
-        19 => partition::plan(out, line, p, r, b, t, c),
-        34 => many::insert(out, line, p, r, b, t),
-        _ => call::reads(out, v, line, p, r, b, t, c),
+    match verb {
+        Verb::Change(v) => writeln!(out, "{}", call::change(v, line, set)),
+        Verb::Ask(v) => writeln!(out, "{}", call::ask(v, line, set)),
+        Verb::Join(v) => writeln!(out, "{}", call::join(v, set, other)),
+        Verb::Cut(v) => partition::call(out, v, line, &set.bounds),
+        Verb::Check => writeln!(out, "{}", check(set)),
+        Verb::Dump => set.dump(out),
+        Verb::Poke => writeln!(out, "{}", set.poke(line)),
+        Verb::Plan => partition::plan(out, line, set),
+        Verb::Iter => many::iter(out, line, set),
+        Verb::Mark => marks::mark(out, line, set),
+        Verb::Meet => marks::meet(out, line, &set.bounds),
+        Verb::GetAll => many::get(out, line, set),
+        Verb::RankAll => many::rank(out, line, set),
+        Verb::RankIfAll => many::rank_if(out, line, set),
+        Verb::InsertAll => many::insert(out, line, set),
+        Verb::Slots => writeln!(out, "{}", slots(line)),
+        Verb::Bounded => writeln!(out, "{}", bounded(line)),
     }
 }
 
-// A line on one set: on set k's half of each pool.
-fn on_half(
-    out: &mut Stdout,
-    v: u64,
-    k: usize,
-    line: &[u8],
-    p: &mut [u64],
-    r: &mut [u32],
-    b: &mut [u32],
-    t: &mut [u64],
-    c: &mut [i64],
-) -> io::Result<()>
-    requires { (k ≤ 1) × (length p.old ≡ 16384) × (length r.old ≡ 8192) × (length b.old ≡ 2048) × (length t.old ≡ 2048) × (length c.old ≡ 512) }
-{
-    on(
-        out,
-        v,
-        line,
-        &mut p[8192 * k..8192 * k + 8192],
-        &mut r[4096 * k..4096 * k + 4096],
-        &mut b[1024 * k..1024 * k + 1024],
-        &mut t[1024 * k..1024 * k + 1024],
-        &mut c[256 * k..256 * k + 256],
-    )
-}
-
-// A line: on both sets, or on one.
-fn answer(
-    out: &mut Stdout,
-    line: &[u8],
-    p: &mut [u64],
-    r: &mut [u32],
-    b: &mut [u32],
-    t: &mut [u64],
-    c: &mut [i64],
-) -> io::Result<()>
-    requires { (length p.old ≡ 16384) × (length r.old ≡ 8192) × (length b.old ≡ 2048) × (length t.old ≡ 2048) × (length c.old ≡ 512) }
-{
-    let v = verb::of(line);
-    let k = verb::up_to(line, 1, 1);
-    match v {
-        27..=28 => say::answer(out, 0, told::done(pair::unite(v, k, p, r, b, t))),
-        _ => on_half(out, v, k, line, p, r, b, t, c),
+// A line. Where it names a set, that is word 1.
+fn answer(out: &mut Stdout, line: &[u8], first: &mut Pools, second: &mut Pools) -> io::Result<()> {
+    let Some(verb) = verb::of(line) else {
+        return writeln!(out, "{}", Told::NoCall);
+    };
+    if words::number_or(line, 1, 0) == 0 {
+        on(out, verb, line, first, second)
+    } else {
+        on(out, verb, line, second, first)
     }
 }
 
-// All of the input. A proved loop has to end, so turns are counted down from a number that no run uses up.
-fn run(
-    stdin: &mut Stdin,
-    out: &mut Stdout,
-    bytes: &mut [u8; 65536],
-    text: &mut [u8; 400],
-    p: &mut [u64; 16384],
-    r: &mut [u32; 8192],
-    b: &mut [u32; 2048],
-    t: &mut [u64; 2048],
-    c: &mut [i64; 512],
-) -> io::Result<()> {
-    let mut now = input::stand(0, 0, 0, false);
-    let mut turns = u64::MAX;
-    while 0 < turns {
-        now = input::step(stdin, bytes, text, now)?;
-        if now.whole {
-            answer(out, input::line(text, now.n), p, r, b, t, c)?;
+fn main(rt: HostRuntime) -> io::Result<()> {
+    let mut input = Input::new(rt.stdin());
+    let mut out = rt.stdout();
+    let mut first = Pools::new();
+    let mut second = Pools::new();
+    // a proved loop has to end: this many lines no run has
+    for _ in 0..u64::MAX {
+        if !input.next()? {
+            break;
         }
-        turns = if now.end == 0 { 0 } else { turns - 1 };
+        answer(&mut out, input.line(), &mut first, &mut second)?;
     }
     Ok(())
-}
-
-// Two sets: of each array the first half is the first one's.
-fn main(rt: HostRuntime) -> io::Result<()> {
-    let mut bytes = [0u8; 65536];
-    let mut text = [0u8; 400];
-    let mut p = [0u64; 16384];
-    let mut r = [0u32; 8192];
-    let mut b = [0u32; 2048];
-    let mut t = [0u64; 2048];
-    let mut c = [0i64; 512];
-    run(
-        &mut rt.stdin(),
-        &mut rt.stdout(),
-        &mut bytes,
-        &mut text,
-        &mut p,
-        &mut r,
-        &mut b,
-        &mut t,
-        &mut c,
-    )
 }

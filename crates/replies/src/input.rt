@@ -1,56 +1,76 @@
-// Standard input, a byte at a time.
+// Standard input, line by line. There is no heap, so no lines of std's, which are Strings: a line is cut from a buffer of fixed size, byte by byte.
+ghost use Rattle.std.specs.Prelude.{◌≤◌};
+
 use std::io;
 use std::io::{Read, Stdin};
 
-// Where reading stands: of the bytes read those from `at` to before `end` are not used yet, and `n` bytes are kept of a line, 401 standing for too many.
-// `whole`: the line has ended. After a read, an `end` of 0 says that the input has.
-#[derive(Clone, Copy)]
-pub struct Reading {
+#[derive(Drop)]
+pub struct Input {
+    stdin: Stdin,
+    // what was read, of which from at to before end nothing is used yet
+    bytes: [u8; 65536],
     at: usize,
-    pub end: usize,
-    pub n: usize,
-    pub whole: bool,
+    end: usize,
+    ended: bool,
+    // the line's first bytes, and how many it has
+    text: [u8; 400],
+    length: usize,
+    ghost within: { end ≤ 65536 },
 }
 
-pub fn stand(at: usize, end: usize, n: usize, whole: bool) -> Reading {
-    Reading { at, end, n, whole }
-}
-
-// One more byte: kept while there is room, and a newline never. Answers how many are kept.
-fn keep(text: &mut [u8; 400], n: usize, b: u8) -> usize {
-    if b == b'\n' {
-        return n;
-    }
-    if n < 400 {
-        text[n] = b;
-        return n + 1;
-    }
-    401
-}
-
-// The n bytes that are kept; none of a line that is too long, for which there is no call either.
-pub fn line(text: &[u8], n: usize) -> &[u8] {
-    if text.len() < n {
-        return &text[0..0];
-    }
-    &text[0..n]
-}
-
-// A step further: a byte, or a read. At the end of the input what is kept is a line too.
-pub fn step(
-    stdin: &mut Stdin,
-    bytes: &mut [u8; 65536],
-    text: &mut [u8; 400],
-    now: Reading,
-) -> io::Result<Reading> {
-    let at = now.at;
-    let n = if now.whole { 0 } else { now.n };
-    if at < now.end {
-        if at < 65536 {
-            let b = bytes[at];
-            return Ok(stand(at + 1, now.end, keep(text, n, b), b == b'\n'));
+impl Input {
+    pub fn new(stdin: Stdin) -> Input {
+        Input {
+            stdin,
+            bytes: [0; 65536],
+            at: 0,
+            end: 0,
+            ended: false,
+            text: [0; 400],
+            length: 0,
         }
     }
-    let end = stdin.read(bytes)?;
-    Ok(stand(0, end, n, (end == 0) & (0 < n)))
+
+    // The next byte, from a read where all are used.
+    fn byte(&mut self) -> io::Result<Option<u8>> {
+        if self.at >= self.end && !self.ended {
+            let end = self.stdin.read(&mut self.bytes)?;
+            self.at = 0;
+            self.end = end;
+            self.ended = end == 0;
+        }
+        if self.at >= self.end {
+            return Ok(None);
+        }
+        let b = self.bytes[self.at];
+        self.at += 1;
+        Ok(Some(b))
+    }
+
+    // One more byte of the line, kept while there is room.
+    fn keep(&mut self, b: u8) {
+        if let Some(place) = self.text.get_mut(self.length) {
+            *place = b;
+        }
+        self.length = self.length.saturating_add(1);
+    }
+
+    // Reads a line, and answers whether there is one. At the end of the input what is kept is a line too.
+    pub fn next(&mut self) -> io::Result<bool> {
+        self.length = 0;
+        // a proved loop has to end: this many bytes no line has
+        for _ in 0..u64::MAX {
+            match self.byte()? {
+                Some(b'\n') => return Ok(true),
+                Some(b) => self.keep(b),
+                None => return Ok(self.length > 0),
+            }
+        }
+        Ok(false)
+    }
+
+    // The line that was read; none of it where it is too long, for which there is no call either.
+    pub fn line(&self) -> &[u8] {
+        self.text.get(..self.length).unwrap_or(&[])
+    }
 }

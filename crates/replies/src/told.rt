@@ -1,36 +1,63 @@
-// What a call answered, of whatever kind, to be said by its verb.
+// What a call answers, where that is one word or number.
 use codes::answer::{DoneAnswer, NumberAnswer, OptionalAnswer, TruthAnswer};
+use std::fmt;
 
-// kind 0: done, or none. 1: a value; no is 0 and yes is 1. 2: refused, with its number. 3: no call.
-#[derive(Clone, Copy)]
-pub struct Told {
-    pub kind: u64,
-    pub value: u64,
+#[derive(Clone, Copy, Debug, PartialEq, Eq)]
+pub enum Told {
+    Done,
+    Truth(bool),
+    Value(u64),
+    Nothing,
+    Refused(u64),
+    NoCall,
 }
 
-// A kind and its value, where nothing was refused.
-fn unless(refusal: u64, kind: u64, value: u64) -> Told {
-    if refusal != 0 {
-        return Told {
-            kind: 2,
-            value: refusal,
-        };
+impl From<DoneAnswer> for Told {
+    fn from(a: DoneAnswer) -> Told {
+        match a.refusal {
+            0 => Told::Done,
+            n => Told::Refused(n),
+        }
     }
-    Told { kind, value }
 }
 
-pub fn done(a: DoneAnswer) -> Told {
-    unless(a.refusal, 0, 0)
+impl From<TruthAnswer> for Told {
+    fn from(a: TruthAnswer) -> Told {
+        match a.refusal {
+            0 => Told::Truth(a.yes),
+            n => Told::Refused(n),
+        }
+    }
 }
 
-pub fn truth(a: TruthAnswer) -> Told {
-    unless(a.refusal, 1, a.yes as u64)
+impl From<NumberAnswer> for Told {
+    fn from(a: NumberAnswer) -> Told {
+        match a.refusal {
+            0 => Told::Value(a.value),
+            n => Told::Refused(n),
+        }
+    }
 }
 
-pub fn number(a: NumberAnswer) -> Told {
-    unless(a.refusal, 1, a.value)
+impl From<OptionalAnswer> for Told {
+    fn from(a: OptionalAnswer) -> Told {
+        match a.refusal {
+            0 if a.has => Told::Value(a.value),
+            0 => Told::Nothing,
+            n => Told::Refused(n),
+        }
+    }
 }
 
-pub fn optional(a: OptionalAnswer) -> Told {
-    unless(a.refusal, a.has as u64, a.value)
+impl fmt::Display for Told {
+    fn fmt<W: fmt::Write>(&self, f: &mut fmt::Formatter<W>) -> fmt::Result {
+        match *self {
+            Told::Done => f.write_str("ok"),
+            Told::Truth(yes) => write!(f, "{yes}"),
+            Told::Value(n) => write!(f, "{n}"),
+            Told::Nothing => f.write_str("none"),
+            Told::Refused(n) => write!(f, "refused {n}"),
+            Told::NoCall => f.write_str("bad"),
+        }
+    }
 }

@@ -7,14 +7,12 @@ ghost use Rattle.calls.specs.Reading.{spot_by};
 ghost use Rattle.calls.specs.Counts.{entries_ok};
 ghost use Rattle.calls.specs.Range.{any_at, any_entry, any_run, any_from};
 ghost use Rattle.contracts.specs.Does.{Answers};
-ghost use Rattle.scan.specs.Turns.{is_no};
 
-use document::answer::Truth;
-use document::refusal;
+use document::refusal::Refusal;
 use entries::clip;
 use layout::find::Spot;
 use layout::{entry, find, head};
-use numbers::{Natural, id as ids, power};
+use numbers::{id as ids, power};
 
 // Whether the part that word w names has an offset in a to b.
 fn any_at(
@@ -25,22 +23,21 @@ fn any_at(
     a: u64,
     b: u64,
     w: u64,
-) -> Truth
+) -> Result<bool, Refusal>
     requires { (9 ≤ (header_at table.now).s) × ((header_at table.now).s ≤ 25) × (a < 2 ^ (header_at table.now).s) × (b < 2 ^ (header_at table.now).s) }
     ensures { let x = mem pages.now rows.now blocks.now table.now in
         result ≡ any_at x a b (spot_by x w) }
 {
-    match find::spot_of(pages, rows, table, w) {
-        Spot::Nowhere => Truth::Is(false),
+    match find::spot_of(pages, rows, table, w)? {
+        Spot::Nowhere => Ok(false),
         Spot::Row(i, n, l) => {
             let j = i + n;
-            Truth::Is(sparse::any_in(&rows[i..j], l, a as u32, b as u32))
+            Ok(sparse::any_in(&rows[i..j], l, a as u32, b as u32))
         }
         Spot::Page(i, n) => {
             let j = i + n;
-            Truth::Is(dense::any_in(&pages[i..j], a, b))
+            Ok(dense::any_in(&pages[i..j], a, b))
         }
-        Spot::Bad => Truth::Refused(refusal::NOT_LAID_OUT),
     }
 }
 
@@ -53,14 +50,14 @@ fn any_entry(
     lo: u64,
     hi: u64,
     e: u64,
-) -> Truth
+) -> Result<bool, Refusal>
     requires { (entries_ok table.now ≡ true) × (e ≤ 327680) }
     ensures { let x = mem pages.now rows.now blocks.now table.now in
         result ≡ any_entry x lo hi e }
 {
     let w = entry::word_by(table, e);
     if w == 0 {
-        return Truth::Is(false);
+        return Ok(false);
     }
     let s = head::shift(table);
     let c = entries::chunk(table, e);
@@ -75,15 +72,6 @@ fn any_entry(
     )
 }
 
-fn is_no(r: Truth) -> bool
-    ensures { result ≡ is_no r }
-{
-    match r {
-        Truth::Is(b) => !b,
-        Truth::Refused(_) => false,
-    }
-}
-
 // The entries from e to n - 1, up to the first whose chunk is past hi's.
 fn any_run(
     pages: &[u64],
@@ -94,28 +82,32 @@ fn any_run(
     hi: u64,
     e: u64,
     n: u64,
-) -> Truth
+) -> Result<bool, Refusal>
     requires { (entries_ok table.now ≡ true) × (n ≤ 327680) }
     ensures { let x = mem pages.now rows.now blocks.now table.now in
         result ≡ any_run x lo hi (n - e) e }
 {
     let last = power::high(hi, head::shift(table));
-    let mut i = e;
-    while i < n {
+    for i in e..n {
         if last < entries::chunk(table, i) {
-            return Truth::Is(false);
+            return Ok(false);
         }
-        let r = any_entry(pages, rows, blocks, table, lo, hi, i);
-        if !is_no(r) {
-            return r;
+        if any_entry(pages, rows, blocks, table, lo, hi, i)? {
+            return Ok(true);
         }
-        i += 1;
     }
-    Truth::Is(false)
+    Ok(false)
 }
 
 // Whether an id lies in lo to hi.
-fn any_from(pages: &[u64], rows: &[u32], blocks: &[u32], table: &[u64], lo: u64, hi: u64) -> Truth
+fn any_from(
+    pages: &[u64],
+    rows: &[u32],
+    blocks: &[u32],
+    table: &[u64],
+    lo: u64,
+    hi: u64,
+) -> Result<bool, Refusal>
     requires { entries_ok table.now ≡ true }
     ensures { let x = mem pages.now rows.now blocks.now table.now in
         result ≡ any_from x lo hi }
@@ -141,19 +133,19 @@ pub fn any_in_range(
     table: &[u64],
     min: i64,
     max: i64,
-) -> Truth
+) -> Result<bool, Refusal>
     ensures { let x = mem pages.now rows.now blocks.now table.now in
         Answers x (range_test min max) (whether result) }
 {
     if !entries::are(table) {
-        return Truth::Refused(refusal::NOT_LAID_OUT);
+        return Err(Refusal::NotLaidOut);
     }
-    let Natural::At(hi) = ids::natural(max) else {
-        return Truth::Is(false);
+    let Some(hi) = ids::natural(max) else {
+        return Ok(false);
     };
     let lo = clip::from_zero(min);
     if hi < lo {
-        return Truth::Is(false);
+        return Ok(false);
     }
     any_from(pages, rows, blocks, table, lo, hi)
 }

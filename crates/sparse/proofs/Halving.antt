@@ -14,7 +14,7 @@ use Rattle.sparse.specs.Search.{lower_in, lower_of}
 -- ---- a turn
 
 -- the end of the search, and the part that one turn keeps
-abbrev last : List ℕ → ℕ → ℕ → ℕ
+abbrev pub last : List ℕ → ℕ → ℕ → ℕ
 last row x lo = lo + bool_byte (ltb (get_or row lo 0) x)
 
 abbrev kept : List ℕ → ℕ → ℕ → ℕ → ℕ
@@ -29,7 +29,7 @@ module _ (row : List ℕ) (x : ℕ) where
   unfolding lower_in
   in_zero lo n = refl
 
-  in_end : (t lo n : ℕ) → n ≤ 1 → lower_in t row x lo n ≡ last row x lo
+  pub in_end : (t lo n : ℕ) → n ≤ 1 → lower_in t row x lo n ≡ last row x lo
   unfolding lower_in
   in_end zero lo n m = refl
   in_end (suc t) lo n m = ap (λ (b : Bool). cond b (lower_in t row x (kept row x lo n) (n - n / 2)) (last row x lo)) (le-ltb 1 n m)
@@ -62,45 +62,27 @@ module _ (row : List ℕ) (x : ℕ) where
           let m = ltb-false 1 (suc t) e in
           in_end (suc t - suc t / 2) (kept row x lo (suc t)) (suc t - suc t / 2) (omega arith) ∙ ap (last row x) (kept_one lo (suc t) m) ∙ sym (in_end (suc t) lo (suc t) m)
 
-  -- the part from p on that the test of the middle leaves: it lies inside, and gives the same answer
-  module _ (lo n p : ℕ) (some : 1 ≤ n) where
-    on_kept : kept row x lo n ≡ p → p ≤ lo + n / 2 → (p + (n - n / 2) ≤ lo + n) × (lower_in (n - n / 2) row x p (n - n / 2) ≡ lower_in n row x lo n)
-    on_kept e l = (omega arith, ap (λ (k : ℕ). lower_in (n - n / 2) row x k (n - n / 2)) (sym e) ∙ kept_same lo n some)
+  -- either half, as the test of the middle leaves it, gives the same answer
+  module _ (lo n : ℕ) (some : 1 ≤ n) where
+    on_kept : (p : ℕ) → kept row x lo n ≡ p → lower_in (n - n / 2) row x p (n - n / 2) ≡ lower_in n row x lo n
+    on_kept p e = ap (λ (k : ℕ). lower_in (n - n / 2) row x k (n - n / 2)) (sym e) ∙ kept_same lo n some
 
-    pub upper_half : get_or row (lo + n / 2) 0 < x → p ≡ lo + n / 2 → (p + (n - n / 2) ≤ lo + n) × (lower_in (n - n / 2) row x p (n - n / 2) ≡ lower_in n row x lo n)
-    upper_half l e = on_kept (ap (λ (b : Bool). cond b (lo + n / 2) lo) (lt-ltb (get_or row (lo + n / 2) 0) x l) ∙ sym e) (omega arith)
+    pub upper_half : get_or row (lo + n / 2) 0 < x → lower_in (n - n / 2) row x (lo + n / 2) (n - n / 2) ≡ lower_in n row x lo n
+    upper_half l = on_kept (lo + n / 2) (ap (λ (b : Bool). cond b (lo + n / 2) lo) (lt-ltb (get_or row (lo + n / 2) 0) x l))
 
-    pub lower_half : x ≤ get_or row (lo + n / 2) 0 → p ≡ lo → (p + (n - n / 2) ≤ lo + n) × (lower_in (n - n / 2) row x p (n - n / 2) ≡ lower_in n row x lo n)
-    lower_half l e = on_kept (ap (λ (b : Bool). cond b (lo + n / 2) lo) (le-ltb (get_or row (lo + n / 2) 0) x l) ∙ sym e) (omega arith)
+    pub lower_half : x ≤ get_or row (lo + n / 2) 0 → lower_in (n - n / 2) row x lo (n - n / 2) ≡ lower_in n row x lo n
+    lower_half l = on_kept lo (ap (λ (b : Bool). cond b (lo + n / 2) lo) (le-ltb (get_or row (lo + n / 2) 0) x l))
 
--- ---- what is left
-
--- n places from lo on, with the whole search's answer
-pub record Halving (row : List ℕ) (len x lo n : ℕ) : Type 0 where
-  pub some : 1 ≤ n
-  pub inside : lo + n ≤ len
-  pub same : lower_in n row x lo n ≡ lower_of row len x
+-- ---- the whole search
 
 module _ (row : List ℕ) (len x : ℕ) where
-  lower_none : len ≡ 0 → lower_of row len x ≡ 0
+  pub lower_none : len ≡ 0 → lower_of row len x ≡ 0
   unfolding lower_of
   lower_none e = ap (λ (b : Bool). cond b 0 (lower_in len row x 0 len)) (eq-eqb len 0 e)
 
-  lower_some : (len ≡ 0 → ⊥) → lower_of row len x ≡ lower_in len row x 0 len
+  pub lower_some : (len ≡ 0 → ⊥) → lower_of row len x ≡ lower_in len row x 0 len
   unfolding lower_of
   lower_some e = ap (λ (b : Bool). cond b 0 (lower_in len row x 0 len)) (ne_eqb len 0 e)
-
-  pub halving_none : len ≡ 0 → 0 ≡ lower_of row len x
-  halving_none e = sym (lower_none e)
-
-  pub halving_start : (len ≡ 0 → ⊥) → Halving row len x 0 len
-  halving_start e = record { some = omega arith; inside = omega arith; same = sym (lower_some e) }
-
-  pub halving_on : {lo n p k : ℕ} → Halving row len x lo n → 1 ≤ k → p + k ≤ lo + n → lower_in k row x p k ≡ lower_in n row x lo n → Halving row len x p k
-  halving_on h s i e = record { some = s; inside = omega (arith, h.inside); same = e ∙ h.same }
-
-  pub halving_end : (lo n : ℕ) → Halving row len x lo n → n ≤ 1 → lo + bool_byte (ltb (get_or row lo 0) x) ≡ lower_of row len x
-  halving_end lo n h m = sym (in_end row x n lo n m) ∙ h.same
 
 -- ---- any content
 

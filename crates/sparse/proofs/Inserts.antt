@@ -1,5 +1,5 @@
 -- What one insertion does to a row's members, counts and rising. Assumes nothing.
-use mathlib.Core.Path.{◌≡◌, refl, sym, ap, subst, ◌∙◌}
+use mathlib.Core.Path.{◌≡◌, sym, ap, subst, ◌∙◌}
 use mathlib.Core.Logic.{◌⊎◌, inl, inr}
 use mathlib.Core.Bool.{Bool, true, false, ◌||◌}
 use mathlib.Core.List.{List}
@@ -13,11 +13,11 @@ use Rattle.sums.proofs.Sums.{Inserted, sum_insert}
 use Rattle.sparse.specs.Row.{Row, row_of, member, below_of, Rising}
 use Rattle.sparse.specs.Edit.{inserted_at}
 use Rattle.sparse.specs.Search.{search_in}
-use Rattle.sparse.specs.declared.Place.TheVariants.{Free}
-use Rattle.sparse.proofs.Rows.{some_or, member_at, member_small, below_before, below_after, count_member}
+use Rattle.std.specs.Prelude.{Err}
+use Rattle.sparse.proofs.Rows.{some_or, member_at, below_before, below_after, count_member}
 use Rattle.sparse.proofs.Searches.{search_free, search_free_le}
-use Rattle.sparse.proofs.Edits.{less_or, inserted_at_law}
-use borrow.Author.Tests.{eqb-true}
+use Rattle.std.proofs.lemmas.Bool.{cases_lt}
+use Rattle.sparse.proofs.Edits.{inserted_at_law}
 
 module _ (f g : Row) (k n v : ℕ) (i : Inserted f g k n v) where
   -- a count over the row is one test more
@@ -44,7 +44,7 @@ module _ (f g : Row) (k n v : ℕ) (i : Inserted f g k n v) where
   -- put in between what is less and what is more
   rising_between : ((j : ℕ) → j < k → f j < v) → ((j : ℕ) → k ≤ j → j < n → v < f j) → Rising f n → Rising g (suc n)
   rising_between lo hi up a zero p q = absurd (omega arith)
-  rising_between lo hi up a (suc b) p q = go (less_or (suc b) k) (less_or k (suc b)) (less_or a k) (less_or k a)
+  rising_between lo hi up a (suc b) p q = go (cases_lt (suc b) k) (cases_lt k (suc b)) (cases_lt a k) (cases_lt k a)
     where
       old : (j : ℕ) → k < suc j → suc j < suc n → g (suc j) ≡ f j
       old j c d = i.above j (omega arith) (omega arith)
@@ -70,17 +70,6 @@ module _ (f g : Row) (k n v : ℕ) (i : Inserted f g k n v) where
           omega arith
       go (inr c) (inl d) (inr e) (inl m) = both_up a m p d
 
-  -- a bound on the offsets
-  pub small_insert : (s : ℕ) → ((j : ℕ) → j < n → f j < s) → v < s → (j : ℕ) → j < suc n → g j < s
-  small_insert s h l j m = member_small_at (member_insert (g j))
-    where
-      member_small_at : member g (suc n) (g j) ≡ (member f n (g j) || eqb v (g j)) → g j < s
-      member_small_at e = go (member f n (g j)) refl (sym e ∙ member_at g (suc n) j m)
-        where
-          go : (b : Bool) → member f n (g j) ≡ b → (member f n (g j) || eqb v (g j)) ≡ true → g j < s
-          go true p q = member_small f n s (g j) h p
-          go false p q = let d = eqb-true v (g j) (ap (λ (b : Bool). b || eqb v (g j)) (sym p) ∙ q) in omega arith
-
 -- the place that the search gives for a value that is not there
 module _ (f g : Row) (n v : ℕ) (i : Inserted f g (below_of f n v) n v) (up : Rising f n) (new : member f n v ≡ false) where
   pub rising_insert : Rising g (suc n)
@@ -91,7 +80,7 @@ module _ (f g : Row) (n v : ℕ) (i : Inserted f g (below_of f n v) n v) (up : R
       up
     where
       apart : (j : ℕ) → j < n → v ≡ f j → ⊥
-      apart j l e = let t : false ≡ true = sym new ∙ ap (member f n) e ∙ member_at f n j l in let z : ◌≡◌ {A = ℕ} 0 1 = cc in omega arith
+      apart j l e = let t : false ≡ true = sym new ∙ ap (member f n) e ∙ member_at f n j l in cc
 
   -- one member more
   pub count_member_insert : (x : ℕ) → count (member g (suc n)) x ≡ count (member f n) x + bool_byte (ltb v x)
@@ -99,7 +88,7 @@ module _ (f g : Row) (n v : ℕ) (i : Inserted f g (below_of f n v) n v) (up : R
 
 -- ---- the list after an insert at the place that the search gives
 
-module _ (row : List ℕ) (len x at : ℕ) (room : len < length row) (free : search_in row len x ≡ Free at) where
+module _ (row : List ℕ) (len x at : ℕ) (room : len < length row) (free : search_in row len x ≡ Err at) where
   into : Inserted (row_of row) (row_of (inserted_at row len at x)) at len x
   into = inserted_at_law row len at x (search_free_le row len x at free) room
 

@@ -2,13 +2,14 @@
 use mathlib.Core.Path.{◌≡◌, refl, sym, ap, ap₂, ◌∙◌, subst}
 use mathlib.Core.Logic.{◌⊎◌, inl, inr}
 use mathlib.Core.Bool.{Bool, true, false}
-use mathlib.Core.List.{List, ◌∷◌}
-use Prim.Native.Nat.{ℕ, zero, suc, ◌+◌, ◌-◌, ◌*◌, ◌%◌, ◌^◌, ◌≤◌, ◌<◌}
-use native.Mathlib.Nat.{mod-lt, mod-eq_of_lt, one-mul}
+use mathlib.Core.List.{List, [], ◌∷◌}
+use Prim.Native.Nat.{ℕ, zero, suc, ◌+◌, ◌-◌, ◌*◌, ◌%◌, ◌^◌, ◌≤◌, ◌<◌, min}
+use native.Mathlib.Nat.{add-zero, mod-lt, mod-eq_of_lt, one-mul}
 use native.Mathlib.Omega.{arith}
 use lib.Dec.{eqb, ltb, lit<}
 use lib.IntN.{ℤ, pos}
-use lib.ListN.{length, get_or, set}
+use lib.ListN.{length, get_or, set, take, drop}
+use lib.Seq.{get_or-take, get_or-drop}
 use lib.Pow.{pow_pos, shl_exact}
 use mir.Syntax.{w64}
 use mir.Val.{to_z}
@@ -20,8 +21,8 @@ use Rattle.sums.proofs.Filling.{members_yes, members_no, Left, left_start, left_
 use Rattle.sparse.specs.Row.{row_of, member, Rising}
 use Rattle.sparse.specs.Search.{lower_of}
 use Rattle.sparse.specs.Listed.{offsets_at, offsets_from}
+use Rattle.std.proofs.lemmas.Bool.{cases_lt}
 use Rattle.sparse.proofs.Rows.{member_of, below_le, below_before, below_after}
-use Rattle.sparse.proofs.Halving.{lower_le}
 use Rattle.sparse.proofs.Searches.{lower_rising}
 
 -- ---- the size as the machine has it
@@ -29,11 +30,8 @@ use Rattle.sparse.proofs.Searches.{lower_rising}
 size_is : (s : ℕ) → s < 32 → 1 * 2 ^ s % 2 ^ 64 ≡ 2 ^ s
 size_is s l = shl_exact 1 s 64 (lit< tt) (omega arith) ∙ one-mul (2 ^ s)
 
-pub size_some : (s : ℕ) → s < 32 → 0 < 1 * 2 ^ s % 2 ^ 64
-size_some s l = subst (λ (u : ℕ). 0 < u) (sym (size_is s l)) (pow_pos s)
-
 -- an id of the chunk
-pub id_lt : (base x s : ℕ) → s < 32 → base + 2 ^ s ≤ 2 ^ 63 → base + x % (1 * 2 ^ s % 2 ^ 64) < 2 ^ 63
+id_lt : (base x s : ℕ) → s < 32 → base + 2 ^ s ≤ 2 ^ 63 → base + x % (1 * 2 ^ s % 2 ^ 64) < 2 ^ 63
 id_lt base x s l f = subst (λ (u : ℕ). base + x % u < 2 ^ 63) (sym (size_is s l)) (let m = mod-lt x (pow_pos s) in omega arith)
 
 id_is : (base x s : ℕ) → s < 32 → base + 2 ^ s ≤ 2 ^ 63 → to_z w64 (base + x % (1 * 2 ^ s % 2 ^ 64)) ≡ pos (base + x % 2 ^ s)
@@ -48,44 +46,44 @@ asked row len x base s = plus base (offsets_from row len (2 ^ s) x)
 abbrev pub rest : List ℕ → ℕ → ℕ → ℕ → ℕ → List ℕ
 rest row len base s i = plus base (offsets_at row (2 ^ s) i (len - i))
 
-pub record Listing (row : List ℕ) (len x base s : ℕ) (first : List ℤ) (k : ℕ) (out : List ℤ) (i n : ℕ) : Type 0 where
-  pub left : Left first k (asked row len x base s) out n (rest row len base s i)
-  pub inside : i ≤ len
+-- i ids are written, those of the places from first + i on are left
+pub record Listing (row : List ℕ) (len x base s first : ℕ) (old : List ℤ) (k : ℕ) (out : List ℤ) (i : ℕ) : Type 0 where
+  pub left : Left old k (asked row len x base s) out (k + i) (rest row len base s (first + i))
 
-module _ (row : List ℕ) (len x base s : ℕ) (first : List ℤ) (k : ℕ) where
-  pub listing_start : (i : ℕ) → i ≡ lower_of row len x → k ≤ length first → Listing row len x base s first k first i k
+module _ (row : List ℕ) (len x base s first : ℕ) (old : List ℤ) (k : ℕ) where
+  pub listing_start : first ≡ lower_of row len x → k ≤ length old → Listing row len x base s first old k old 0
   unfolding offsets_from
-  listing_start i e l = record {
-    left = left_same first k (asked row len x base s) first k _ _ (left_start first k (asked row len x base s) l) (ap (rest row len base s) (sym e));
-    inside = omega (arith, lower_le row len x);
+  listing_start e l = record {
+    left = simp add-zero (left_same old k (asked row len x base s) old k _ _ (left_start old k (asked row len x base s) l) (ap (rest row len base s) (sym e)));
   }
 
-  module _ (out : List ℤ) (i n : ℕ) (h : Listing row len x base s first k out i n) where
-    next : i < len → rest row len base s i ≡ (base + get_or row i 0 % 2 ^ s) ∷ rest row len base s (i + 1)
+  module _ (out : List ℤ) (i : ℕ) (h : Listing row len x base s first old k out i) where
+    next : first + i < len → rest row len base s (first + i) ≡ (base + get_or row (first + i) 0 % 2 ^ s) ∷ rest row len base s (first + (i + 1))
     unfolding plus offsets_at
     next l =
-        let e : len - i ≡ suc (len - (i + 1)) = omega arith in
-        let f : suc i ≡ i + 1 = omega arith in
-        ap (λ (m : ℕ). plus base (offsets_at row (2 ^ s) i m)) e
-        ∙ ap (λ (j : ℕ). (base + get_or row i 0 % 2 ^ s) ∷ plus base (offsets_at row (2 ^ s) j (len - (i + 1)))) f
+        let e : len - (first + i) ≡ suc (len - (first + (i + 1))) = omega arith in
+        let f : suc (first + i) ≡ first + (i + 1) = omega arith in
+        ap (λ (m : ℕ). plus base (offsets_at row (2 ^ s) (first + i) m)) e
+        ∙ ap (λ (j : ℕ). (base + get_or row (first + i) 0 % 2 ^ s) ∷ plus base (offsets_at row (2 ^ s) j (len - (first + (i + 1))))) f
 
-    pub listing_turn : s < 32 → base + 2 ^ s ≤ 2 ^ 63 → i < len → n < length out → Listing row len x base s first k (set out n (to_z w64 (base + get_or row i 0 % (1 * 2 ^ s % 2 ^ 64)))) (i + 1) (n + 1)
-    listing_turn a f l m =
-        let p = left_put first k (asked row len x base s) out n (base + get_or row i 0 % 2 ^ s) (rest row len base s (i + 1)) (left_same first k (asked row len x base s) out n _ _ h.left (next l)) m in
-        record {
-          left = subst (λ (z : ℤ). Left first k (asked row len x base s) (set out n z) (n + 1) (rest row len base s (i + 1))) (sym (id_is base (get_or row i 0) s a f)) p;
-          inside = omega arith;
-        }
+    pub listing_turn : (n v : ℕ) → s < 32 → base + 2 ^ s ≤ 2 ^ 63 → first + n ≤ len → i < n → k + i < length out → v ≡ get_or (take n (drop first row)) i 0 → Listing row len x base s first old k (set out (k + i) (to_z w64 (base + v % (1 * 2 ^ s % 2 ^ 64)))) (i + 1)
+    listing_turn n v a f g l m d =
+        let e : v ≡ get_or row (first + i) 0 = d ∙ get_or-take n (drop first row) i 0 l ∙ get_or-drop first row i 0 in
+        let p = left_put old k (asked row len x base s) out (k + i) (base + get_or row (first + i) 0 % 2 ^ s) (rest row len base s (first + (i + 1))) (left_same old k (asked row len x base s) out (k + i) _ _ h.left (next (omega arith))) m in
+        let j : k + i + 1 ≡ k + (i + 1) = omega arith in
+        rw (e, id_is base (get_or row (first + i) 0) s a f) (record { left = rw (← j) p })
+
+    none : len ≤ first + i → rest row len base s (first + i) ≡ []
+    unfolding plus offsets_at
+    none l = let z : len - (first + i) ≡ 0 = omega arith in ap (λ (m : ℕ). plus base (offsets_at row (2 ^ s) (first + i) m)) z
 
     -- the row has no more, or the record no place
-    pub listing_end : len ≤ i → (out ≡ fill first k (asked row len x base s)) × (n ≡ fill_to first k (asked row len x base s))
-    unfolding plus offsets_at
-    listing_end l =
-        let e : len - i ≡ 0 = omega arith in
-        left_none first k (asked row len x base s) out n (left_same first k (asked row len x base s) out n _ _ h.left (ap (λ (m : ℕ). plus base (offsets_at row (2 ^ s) i m)) e))
-
-    pub listing_full : length out ≤ n → (out ≡ fill first k (asked row len x base s)) × (n ≡ fill_to first k (asked row len x base s))
-    listing_full l = left_full first k (asked row len x base s) out n (rest row len base s i) h.left l
+    pub listing_end : i ≡ min (len - first) (length old - k) → (out ≡ fill old k (asked row len x base s)) × (k + i ≡ fill_to old k (asked row len x base s))
+    listing_end e = go (cases_lt (k + i) (length out))
+      where
+        go : (k + i < length out) ⊎ (length out ≤ k + i) → (out ≡ fill old k (asked row len x base s)) × (k + i ≡ fill_to old k (asked row len x base s))
+        go (inl l) = let g = h.left.long in left_none old k (asked row len x base s) out (k + i) (left_same old k (asked row len x base s) out (k + i) _ _ h.left (none (omega arith)))
+        go (inr l) = left_full old k (asked row len x base s) out (k + i) (rest row len base s (first + i)) h.left l
 
 -- ---- where offsets rise
 

@@ -2,12 +2,10 @@
 use mathlib.Core.Path.{◌≡◌, refl, sym, ap, ◌∙◌}
 use mathlib.Core.Logic.{◌⊎◌, inl, inr, ◌≢◌}
 use mathlib.Core.Bool.{Bool, true, false, ◌||◌}
-use mathlib.Core.List.{List}
 use Prim.Native.Nat.{ℕ, zero, suc, ◌+◌, ◌≤◌, ◌<◌}
 use native.Mathlib.Omega.{arith}
+use Rattle.std.proofs.Math.Bool.{or_comm}
 use lib.Dec.{ltb, eqb}
-use lib.ListN.{get_or, take, drop}
-use lib.Seq.{get_or-take, get_or-drop}
 use mir.Val.{bool_byte}
 use borrow.Author.Tests.{ltb-true, ltb-false, lt-ltb, le-ltb, eqb-true, eq-eqb, ne_eqb}
 use Rattle.sums.specs.Ids.{Ids, count}
@@ -15,10 +13,6 @@ use Rattle.sums.specs.Rules.{Decides}
 use Rattle.sums.proofs.Sums.{last_or}
 use Rattle.sums.proofs.Counts.{count_zero, count_suc, count_ext, count_le, count_mono, count_change, count_full, count_none}
 use Rattle.sparse.specs.Row.{Row, member, below_of, Rising}
-
--- a row that is a part of a pool
-pub row_part : (pool : List ℕ) (a k j : ℕ) → j < k → get_or (take k (drop a pool)) j 0 ≡ get_or pool (a + j) 0
-row_part pool a k j l = get_or-take k (drop a pool) j 0 l ∙ get_or-drop a pool j 0
 
 -- ---- counts
 
@@ -97,28 +91,18 @@ pub member_suc : (f : Row) (n x : ℕ) → member f (suc n) x ≡ (member f n x 
 unfolding member
 member_suc f n x = ap (ltb 0) (count_suc (λ (j : ℕ). eqb (f j) x) n) ∙ some_or (count (λ (j : ℕ). eqb (f j) x) n) (eqb (f n) x)
 
-or_swap : (a b : Bool) → (a || b) ≡ (b || a)
-or_swap true true = refl
-or_swap true false = refl
-or_swap false true = refl
-or_swap false false = refl
-
 pub member_front : (f : Row) (n x : ℕ) → member f (suc n) x ≡ (eqb (f 0) x || member (λ (j : ℕ). f (suc j)) n x)
 unfolding member
 member_front f n x =
     let c = count (λ (j : ℕ). eqb (f (suc j)) x) n in
     let e : count (λ (j : ℕ). eqb (f j) x) (suc n) ≡ c + bool_byte (eqb (f 0) x) = omega (arith, count_front (λ (j : ℕ). eqb (f j) x) n) in
-    ap (ltb 0) e ∙ some_or c (eqb (f 0) x) ∙ or_swap (ltb 0 c) (eqb (f 0) x)
+    ap (ltb 0) e ∙ some_or c (eqb (f 0) x) ∙ or_comm (ltb 0 c) (eqb (f 0) x)
 
 -- ---- counts below
 
 pub below_le : (f : Row) (len x : ℕ) → below_of f len x ≤ len
 unfolding below_of
 below_le f len x = count_le (λ (j : ℕ). ltb (f j) x) len
-
-pub below_ext : (f g : Row) (len x : ℕ) → ((j : ℕ) → j < len → f j ≡ g j) → below_of f len x ≡ below_of g len x
-unfolding below_of
-below_ext f g len x h = count_ext (λ (j : ℕ). ltb (f j) x) (λ (j : ℕ). ltb (g j) x) len (λ j l. ap (λ (y : ℕ). ltb y x) (h j l))
 
 pub below_all : (f : Row) (len x : ℕ) → ((j : ℕ) → j < len → f j < x) → below_of f len x ≡ len
 unfolding below_of
@@ -166,7 +150,7 @@ count_member f zero up x = count_none (member f 0) x (λ j l. member_none f j) �
 count_member f (suc n) up x = go (ltb (f n) x) refl (count_member f n (λ i j a b. up i j a (omega arith)) x)
   where
     off : (j : ℕ) → j ≢ f n → member f (suc n) j ≡ member f n j
-    off j d = member_suc f n j ∙ ap (λ (b : Bool). member f n j || b) (ne_eqb (f n) j (λ e. d (sym e))) ∙ or_swap (member f n j) false
+    off j d = member_suc f n j ∙ ap (λ (b : Bool). member f n j || b) (ne_eqb (f n) j (λ e. d (sym e))) ∙ or_comm (member f n j) false
 
     own : member f (suc n) (f n) ≡ true
     own = member_at f (suc n) n (omega arith)

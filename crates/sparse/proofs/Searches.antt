@@ -1,4 +1,4 @@
--- Laws of the search: each way through the code, what it says on any content, and what it says where offsets rise. Assumes nothing.
+-- Laws of the search: what it says on any content, and what it says where offsets rise. Assumes nothing.
 use mathlib.Core.Path.{◌≡◌, refl, sym, ap, ap₂, ◌∙◌}
 use mathlib.Core.Bool.{Bool, true, false, cond, ◌&&◌, ◌||◌}
 use mathlib.Core.List.{List}
@@ -6,96 +6,40 @@ use Prim.Native.Nat.{ℕ, suc, ◌-◌, ◌≤◌, ◌<◌}
 use native.Mathlib.Omega.{arith}
 use lib.Dec.{ltb, leb, eqb, leb-suc-suc}
 use lib.ListN.{get_or}
-use borrow.Author.Tests.{ltb-true, ltb-false, lt-ltb, le-ltb, eqb-true, eq-eqb, ne_eqb}
+use borrow.Author.Tests.{ltb-true, ltb-false, lt-ltb, le-ltb, eqb-true, ne_eqb}
 use Rattle.sums.specs.Rules.{Decides}
 use Rattle.sums.proofs.Rules.{and_of, ltb_of, eqb_of, both}
-use Rattle.sparse.specs.declared.Place.{Place}
-use Rattle.sparse.specs.declared.Place.TheVariants.{Found, Free}
+use Rattle.std.specs.Prelude.{Result, Ok, Err}
 use Rattle.sparse.specs.Row.{row_of, member, below_of, Rising}
 use Rattle.sparse.specs.Search.{lower_of, place_if, found_in, search_in, spot_in, any_in}
 use Rattle.sparse.proofs.Rows.{member_of, member_at, same_test, below_le, below_at, below_before, below_after, below_own, below_all}
 use Rattle.sparse.proofs.Halving.{lower_le, lower_parts}
 
--- ---- each way through the code
-
--- a test of the offset at the place i that the search ends at, if there is one
-module _ (row : List ℕ) (len x i : ℕ) (e : i ≡ lower_of row len x) (test : ℕ → Bool) where
-  at_case : (a : Bool) → ltb i len ≡ a → (a && test (get_or row i 0)) ≡ (ltb (lower_of row len x) len && test (get_or row (lower_of row len x) 0))
-  at_case a p = ap (λ (c : Bool). c && test (get_or row i 0)) (sym p) ∙ ap (λ (k : ℕ). ltb k len && test (get_or row k 0)) e
-
-  at_past : len ≤ i → false ≡ (ltb (lower_of row len x) len && test (get_or row (lower_of row len x) 0))
-  at_past l = at_case false (le-ltb i len l)
-
-  at_here : i < len → test (get_or row i 0) ≡ (ltb (lower_of row len x) len && test (get_or row (lower_of row len x) 0))
-  at_here l = at_case true (lt-ltb i len l)
-
-module _ (row : List ℕ) (len x i : ℕ) (e : i ≡ lower_of row len x) where
-  pub found_past : len ≤ i → false ≡ found_in row len x
-  unfolding found_in
-  found_past = at_past row len x i e (λ (y : ℕ). eqb y x)
-
-  pub found_here : i < len → eqb (get_or row i 0) x ≡ found_in row len x
-  unfolding found_in
-  found_here = at_here row len x i e (λ (y : ℕ). eqb y x)
-
-  place_is : (b : Bool) → b ≡ found_in row len x → place_if b i ≡ search_in row len x
-  unfolding search_in
-  place_is b f = ap (λ (c : Bool). place_if c i) f ∙ ap (place_if (found_in row len x)) e
-
-  pub search_past : len ≤ i → Free i ≡ search_in row len x
-  search_past l = place_is false (found_past l)
-
-  pub search_hit : i < len → get_or row i 0 ≡ x → Found i ≡ search_in row len x
-  search_hit l h = place_is true (sym (eq-eqb (get_or row i 0) x h) ∙ found_here l)
-
-  pub search_miss : i < len → (get_or row i 0 ≡ x → ⊥) → Free i ≡ search_in row len x
-  search_miss l h = place_is false (sym (ne_eqb (get_or row i 0) x h) ∙ found_here l)
-
-module _ (row : List ℕ) (len lo hi i : ℕ) (e : i ≡ lower_of row len lo) where
-  pub any_past : len ≤ i → false ≡ any_in row len lo hi
-  unfolding any_in
-  any_past = at_past row len lo i e (λ (y : ℕ). leb y hi)
-
-  pub any_here : i < len → leb (get_or row i 0) hi ≡ any_in row len lo hi
-  unfolding any_in
-  any_here = at_here row len lo i e (λ (y : ℕ). leb y hi)
-
-module _ (row : List ℕ) (len x : ℕ) where
-  spot_case : (a b : Bool) → eqb len 0 ≡ a → ltb (get_or row (len - 1) 0) x ≡ b → cond (a || b) (Free len) (search_in row len x) ≡ spot_in row len x
-  unfolding spot_in
-  spot_case a b p q =
-      ap (λ (c : Bool). cond (c || b) (Free len) (search_in row len x)) (sym p)
-      ∙ ap (λ (c : Bool). cond (eqb len 0 || c) (Free len) (search_in row len x)) (sym q)
-
-  pub spot_empty : len ≡ 0 → Free len ≡ spot_in row len x
-  spot_empty e = spot_case true (ltb (get_or row (len - 1) 0) x) (eq-eqb len 0 e) refl
-
-  pub spot_end : (len ≡ 0 → ⊥) → get_or row (len - 1) 0 < x → Free len ≡ spot_in row len x
-  spot_end e l = spot_case false true (ne_eqb len 0 e) (lt-ltb (get_or row (len - 1) 0) x l)
-
-  pub spot_within : (r : Place) → (len ≡ 0 → ⊥) → x ≤ get_or row (len - 1) 0 → r ≡ search_in row len x → r ≡ spot_in row len x
-  spot_within r e l p = p ∙ spot_case false false (ne_eqb len 0 e) (le-ltb (get_or row (len - 1) 0) x l)
-
 -- ---- any content
+
+-- an offset above the last goes to the end
+pub spot_end : (row : List ℕ) (len x : ℕ) → (len ≡ 0 → ⊥) → get_or row (len - 1) 0 < x → Err len ≡ spot_in row len x
+unfolding spot_in
+spot_end row len x e l = rw (ne_eqb len 0 e, lt-ltb (get_or row (len - 1) 0) x l) refl
 
 module _ (row : List ℕ) (len x : ℕ) where
   -- what is found is there
-  pub search_found : (i : ℕ) → search_in row len x ≡ Found i → (i < len) × (get_or row i 0 ≡ x)
+  pub search_found : (i : ℕ) → search_in row len x ≡ Ok i → (i < len) × (get_or row i 0 ≡ x)
   unfolding search_in found_in
   search_found i e = go (ltb (lower_of row len x) len && eqb (get_or row (lower_of row len x) 0) x) refl e
     where
-      go : (b : Bool) → (ltb (lower_of row len x) len && eqb (get_or row (lower_of row len x) 0) x) ≡ b → place_if b (lower_of row len x) ≡ Found i → (i < len) × (get_or row i 0 ≡ x)
+      go : (b : Bool) → (ltb (lower_of row len x) len && eqb (get_or row (lower_of row len x) 0) x) ≡ b → place_if b (lower_of row len x) ≡ Ok i → (i < len) × (get_or row i 0 ≡ x)
       go true t p =
-          let w = both _ _ t in
           let k : lower_of row len x ≡ i = cc in
+          let w = both _ _ t in
           let v = ltb-true (lower_of row len x) len w.0 in
           (omega arith, ap (λ (j : ℕ). get_or row j 0) (sym k) ∙ eqb-true (get_or row (lower_of row len x) 0) x w.1)
-      go false t p = absurd (let z : ◌≡◌ {A = ℕ} 0 1 = cc in omega arith)
+      go false t p = absurd cc
 
 -- the place in an answer
-abbrev pub place_of : Place → ℕ
-place_of (Found i) = i
-place_of (Free i) = i
+abbrev pub place_of : Result ℕ ℕ → ℕ
+place_of (Ok i) = i
+place_of (Err i) = i
 
 place_if_law : (b : Bool) (i : ℕ) → place_of (place_if b i) ≡ i
 place_if_law true i = refl
@@ -112,15 +56,15 @@ pub spot_le : (row : List ℕ) (len x : ℕ) → place_of (spot_in row len x) �
 unfolding spot_in
 spot_le row len x = go (eqb len 0 || ltb (get_or row (len - 1) 0) x)
   where
-    go : (b : Bool) → place_of (cond b (Free len) (search_in row len x)) ≤ len
+    go : (b : Bool) → place_of (cond b (Err len) (search_in row len x)) ≤ len
     go true = omega arith
     go false = search_le row len x
 
 -- a free place has room before it
-pub search_free_le : (row : List ℕ) (len x i : ℕ) → search_in row len x ≡ Free i → i ≤ len
+pub search_free_le : (row : List ℕ) (len x i : ℕ) → search_in row len x ≡ Err i → i ≤ len
 search_free_le row len x i e = let p = ap place_of e in let l = search_le row len x in omega arith
 
-pub spot_free_le : (row : List ℕ) (len x i : ℕ) → spot_in row len x ≡ Free i → i ≤ len
+pub spot_free_le : (row : List ℕ) (len x i : ℕ) → spot_in row len x ≡ Err i → i ≤ len
 spot_free_le row len x i e = let p = ap place_of e in let l = spot_le row len x in omega arith
 
 -- ---- where offsets rise
@@ -159,11 +103,11 @@ module _ (row : List ℕ) (len : ℕ) (up : Rising (row_of row) len) where
           by true m = let s = up j (len - 1) (ltb-true j (len - 1) m) (omega arith) in let t = top in omega arith
           by false m = let s = ltb-false j (len - 1) m in let d : j ≡ len - 1 = omega arith in let q = ap (λ (i : ℕ). get_or row i 0) d in let t = top in omega arith
 
-      go : (b : Bool) → (eqb len 0 || ltb (get_or row (len - 1) 0) x) ≡ b → cond b (Free len) (search_in row len x) ≡ search_in row len x
+      go : (b : Bool) → (eqb len 0 || ltb (get_or row (len - 1) 0) x) ≡ b → cond b (Err len) (search_in row len x) ≡ search_in row len x
       go true e =
           let a = below_all (row_of row) len x (all_below e) in
           let n : member (row_of row) len x ≡ false = not_there (member (row_of row) len x) refl in
-          sym (search_rising x ∙ ap (λ (b : Bool). place_if b (below_of (row_of row) len x)) n ∙ ap Free a)
+          sym (search_rising x ∙ ap (λ (b : Bool). place_if b (below_of (row_of row) len x)) n ∙ ap Err a)
         where
           not_there : (b : Bool) → member (row_of row) len x ≡ b → member (row_of row) len x ≡ false
           not_there true m = absurd (let w = (member_of (row_of row) len x).sound m in let s = all_below e w.0 w.1 in let t = w.2 in omega arith)
@@ -215,12 +159,12 @@ module _ (row : List ℕ) (len : ℕ) (up : Rising (row_of row) len) where
               omega arith
 
   -- what each answer says
-  pub search_free : (x i : ℕ) → search_in row len x ≡ Free i → (i ≡ below_of (row_of row) len x) × (member (row_of row) len x ≡ false)
+  pub search_free : (x i : ℕ) → search_in row len x ≡ Err i → (i ≡ below_of (row_of row) len x) × (member (row_of row) len x ≡ false)
   search_free x i e = go (member (row_of row) len x) refl (sym (search_rising x) ∙ e)
     where
-      go : (b : Bool) → member (row_of row) len x ≡ b → place_if (member (row_of row) len x) (below_of (row_of row) len x) ≡ Free i → (i ≡ below_of (row_of row) len x) × (member (row_of row) len x ≡ false)
-      go true m p = absurd (let q : Found (below_of (row_of row) len x) ≡ Free i = ap (λ (b : Bool). place_if b (below_of (row_of row) len x)) (sym m) ∙ p in let z : ◌≡◌ {A = ℕ} 0 1 = cc in omega arith)
+      go : (b : Bool) → member (row_of row) len x ≡ b → place_if (member (row_of row) len x) (below_of (row_of row) len x) ≡ Err i → (i ≡ below_of (row_of row) len x) × (member (row_of row) len x ≡ false)
+      go true m p = absurd (let q : Ok (below_of (row_of row) len x) ≡ Err i = ap (λ (b : Bool). place_if b (below_of (row_of row) len x)) (sym m) ∙ p in cc)
       go false m p = (ap place_of (sym p ∙ ap (λ (b : Bool). place_if b (below_of (row_of row) len x)) m), m)
 
-  pub search_member : (x i : ℕ) → search_in row len x ≡ Found i → (i ≡ below_of (row_of row) len x) × (member (row_of row) len x ≡ true)
+  pub search_member : (x i : ℕ) → search_in row len x ≡ Ok i → (i ≡ below_of (row_of row) len x) × (member (row_of row) len x ≡ true)
   search_member x i e = (ap place_of (sym e ∙ search_rising x) ∙ place_if_law (member (row_of row) len x) (below_of (row_of row) len x), let w = search_found row len x i e in (member_of (row_of row) len x).whole (i, w.0, w.1))

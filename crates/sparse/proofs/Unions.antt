@@ -2,18 +2,17 @@
 use mathlib.Core.Path.{◌≡◌, refl, sym, ap, ap₂, ◌∙◌}
 use mathlib.Core.Logic.{◌⊎◌, inl, inr}
 use mathlib.Core.Bool.{Bool, true, false, ◌||◌}
-use mathlib.Core.List.{List, [], ◌∷◌, ◌++◌, append-nil, append_assoc}
-use Prim.Native.Nat.{ℕ, zero, suc, ◌+◌, ◌-◌, ◌≤◌, ◌<◌, max}
+use mathlib.Core.List.{List, [], ◌∷◌, ◌++◌}
+use Prim.Native.Nat.{ℕ, zero, suc, ◌+◌, ◌≤◌, ◌<◌, max}
 use native.Mathlib.Omega.{arith}
+use Rattle.std.proofs.Math.Bool.{or_assoc}
+use Rattle.std.proofs.lemmas.Grind.{common_steps, elements}
 use lib.Dec.{eqb}
-use lib.ListN.{length, get_or, take, drop, length-append, length-drop, drop_of_length-le, get_or-append}
-use lib.Seq.{take_all, take_at, drop_at, drop-drop, get_or-append-add, get_or-drop}
-use borrow.Rule.Slice.PartMut.{mid_of, put_mid}
+use lib.ListN.{length, get_or, length-append}
 use Rattle.sparse.specs.Row.{row_of, member, Rising}
-use Rattle.sparse.specs.Edit.{copied}
 use Rattle.sparse.specs.Union.{Merged, merged, union, on_front}
 use Rattle.sparse.proofs.Rows.{member_none, member_front, member_at, member_small}
-use Rattle.sparse.proofs.Edits.{less_or}
+use Rattle.std.proofs.lemmas.Bool.{cases_lt}
 use Rattle.sparse.proofs.Merges.{merged_none, merged_less, merged_more, merged_same}
 
 -- ---- equations, and induction over them
@@ -45,7 +44,7 @@ module _ (P : List ℕ → List ℕ → List ℕ → Type 0) (none : (ys : List 
     (same : (x : ℕ) (xs : List ℕ) (y : ℕ) (ys zs : List ℕ) → x ≡ y → P xs ys zs → P (x ∷ xs) (y ∷ ys) (x ∷ zs)) where
   head : (x : ℕ) (xs : List ℕ) → ((ys : List ℕ) → P xs ys (union xs ys)) → (ys : List ℕ) → P (x ∷ xs) ys (union (x ∷ xs) ys)
   head x xs r [] = rw union_all (all (x ∷ xs))
-  head x xs r (y ∷ ys) = go (less_or x y) (less_or y x) (head x xs r ys)
+  head x xs r (y ∷ ys) = go (cases_lt x y) (cases_lt y x) (head x xs r ys)
     where
       go : (x < y) ⊎ (y ≤ x) → (y < x) ⊎ (x ≤ y) → P (x ∷ xs) ys (union (x ∷ xs) ys) → P (x ∷ xs) (y ∷ ys) (union (x ∷ xs) (y ∷ ys))
       go (inl l) b p = rw (union_less x xs y ys l) (less x xs y ys (union xs (y ∷ ys)) l (r (y ∷ ys)))
@@ -90,10 +89,6 @@ or_none : (b : Bool) → b ≡ (b || false)
 or_none true = refl
 or_none false = refl
 
-or_left : (a b c : Bool) → (a || (b || c)) ≡ ((a || b) || c)
-or_left true b c = refl
-or_left false b c = refl
-
 or_right : (a b c : Bool) → (a || (b || c)) ≡ (b || (a || c))
 or_right true true c = refl
 or_right true false c = refl
@@ -110,7 +105,7 @@ member_union z =
     (λ ys. ap (λ (b : Bool). b || among ys z) (sym (member_none (row_of []) z)))
     (λ xs. or_none (among xs z) ∙ ap (λ (b : Bool). among xs z || b) (sym (member_none (row_of []) z)))
     (λ x xs y ys zs l p.
-    among_cons x zs z ∙ ap (λ (b : Bool). eqb x z || b) p ∙ or_left (eqb x z) (among xs z) (among (y ∷ ys) z)
+    among_cons x zs z ∙ ap (λ (b : Bool). eqb x z || b) p ∙ sym (or_assoc (eqb x z) (among xs z) (among (y ∷ ys) z))
     ∙ ap (λ (b : Bool). b || among (y ∷ ys) z) (sym (among_cons x xs z)))
     (λ x xs y ys zs l p.
     among_cons y zs z ∙ ap (λ (b : Bool). eqb y z || b) p ∙ or_right (eqb y z) (among (x ∷ xs) z) (among ys z)
@@ -174,68 +169,18 @@ rising_union xs ys r s = up_rising 0 (union xs ys) (up_union xs ys 0 (rising_up 
 module _ (zs out : List ℕ) where
   pub front_at : (j : ℕ) → j < length zs → get_or (on_front zs out) j 0 ≡ get_or zs j 0
   unfolding on_front
-  front_at j l = get_or-append zs (drop (length zs) out) 0 j l
+  front_at j l = grind (arith, elements)
 
   pub front_past : (j : ℕ) → length zs ≤ j → get_or (on_front zs out) j 0 ≡ get_or out j 0
   unfolding on_front
-  front_past j l =
-      let e : length zs + (j - length zs) ≡ j = omega arith in
-      ap (λ (i : ℕ). get_or (zs ++ drop (length zs) out) i 0) (sym e) ∙ get_or-append-add zs (drop (length zs) out) (j - length zs) 0
-      ∙ get_or-drop (length zs) out (j - length zs) 0 ∙ ap (λ (i : ℕ). get_or out i 0) e
+  front_past j l = grind (arith, elements)
 
   pub length_front : length zs ≤ length out → length (on_front zs out) ≡ length out
   unfolding on_front
-  length_front l = omega (arith, length-append zs (drop (length zs) out), length-drop (length zs) out)
+  length_front l = grind (arith, common_steps)
 
--- ---- the rest appended to the front
+-- ---- the front, and the rest behind it
 
-module _ (xs ys out mid rest : List ℕ) (k : ℕ) (room : length xs + length ys ≤ length out) (r : rest ≡ (merged xs ys).rest) (m : mid ≡ on_front (merged xs ys).front out) (e : k ≡ length (merged xs ys).front) where
-  joined_count : k + length rest ≡ length (union xs ys)
-  unfolding union
-  joined_count = omega (arith, length-append (merged xs ys).front (merged xs ys).rest, ap length r)
-
-  mid_length : length mid ≡ length out
-  mid_length = ap length m ∙ length_front (merged xs ys).front out (let c = joined_count in omega (arith, length_union_le xs ys))
-
-  joined_room : k + length rest ≤ length mid
-  joined_room = let c = joined_count in let l = mid_length in omega (arith, length_union_le xs ys)
-
-  before_k : take k mid ≡ (merged xs ys).front
-  unfolding on_front
-  before_k = ap (take k) m ∙ take_at (merged xs ys).front (drop (length (merged xs ys).front) out) k (sym e)
-
-  from_k : drop k mid ≡ drop k out
-  unfolding on_front
-  from_k = ap (drop k) m ∙ drop_at (merged xs ys).front (drop (length (merged xs ys).front) out) k (sym e) ∙ ap (λ (n : ℕ). drop n out) (sym e)
-
-  part_is : mid_of k (length mid - k) mid ≡ drop k out
-  part_is = take_all (length mid - k) (drop k mid) (omega (arith, length-drop k mid)) ∙ from_k
-
-  joined_part : length rest ≤ length (mid_of k (length mid - k) mid)
-  joined_part = let p = ap length part_is in let l = mid_length in let q = joined_room in omega (arith, length-drop k out)
-
-  joined_out : (end : List ℕ) → end ≡ copied rest (mid_of k (length mid - k) mid) (length rest) → put_mid k (length mid - k) mid end ≡ on_front (union xs ys) out
-  unfolding copied on_front union
-  joined_out end p =
-      let f = (merged xs ys).front in
-      let n : k + length rest ≡ length (f ++ (merged xs ys).rest) = joined_count in
-      ap₂ (λ (s t : List ℕ). s ++ (t ++ drop (length mid - k) (drop k mid))) before_k
-      (p ∙ ap₂ (λ (s t : List ℕ). s ++ drop (length rest) t) (take_all (length rest) rest (omega arith)) part_is ∙ ap (λ (t : List ℕ). rest ++ t) (drop-drop (length rest) k out))
-      ∙ ap (λ (t : List ℕ). f ++ t) (ap (λ (s : List ℕ). (rest ++ drop (k + length rest) out) ++ s) (drop_of_length-le (drop k mid) {i = length mid - k} (omega (arith, length-drop k mid))) ∙ append-nil (rest ++ drop (k + length rest) out))
-      ∙ sym (append_assoc f rest (drop (k + length rest) out))
-      ∙ ap₂ (λ (s : List ℕ) (i : ℕ). (f ++ s) ++ drop i out) r n
-
--- what the caller of `merge` needs to append the rest, and what comes of it
-pub record Joined (xs ys out mid rest : List ℕ) (k : ℕ) : Type 0 where
-  pub count : k + length rest ≡ length (union xs ys)
-  pub room : k + length rest ≤ length mid
-  pub part : length rest ≤ length (mid_of k (length mid - k) mid)
-  pub done : (end : List ℕ) → end ≡ copied rest (mid_of k (length mid - k) mid) (length rest) → put_mid k (length mid - k) mid end ≡ on_front (union xs ys) out
-
-pub joined : (xs ys out mid rest : List ℕ) (k : ℕ) → length xs + length ys ≤ length out → (rest ≡ (merged xs ys).rest) × (mid ≡ on_front (merged xs ys).front out) × (k ≡ length (merged xs ys).front) → Joined xs ys out mid rest k
-joined xs ys out mid rest k l e = record {
-  count = joined_count xs ys out mid rest k l e.0 e.1 e.2;
-  room = joined_room xs ys out mid rest k l e.0 e.1 e.2;
-  part = joined_part xs ys out mid rest k l e.0 e.1 e.2;
-  done = joined_out xs ys out mid rest k l e.0 e.1 e.2;
-}
+pub merged_le : (xs ys : List ℕ) → length (merged xs ys).front + length (merged xs ys).rest ≤ length xs + length ys
+unfolding union
+merged_le xs ys = omega (arith, length_union_le xs ys, length-append (merged xs ys).front (merged xs ys).rest)

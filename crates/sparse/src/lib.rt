@@ -8,13 +8,6 @@ ghost use Rattle.sparse.specs.Search.{lower_in, lower_of, found_in, search_in, s
 ghost use Rattle.sparse.specs.Edit.{inserted_at, cleared, copied};
 ghost use Rattle.sparse.specs.Union.{merged, union, on_front};
 
-// Where an offset stands, or where it would.
-#[derive(Clone, Copy)]
-pub enum Place {
-    Found(usize),
-    Free(usize),
-}
-
 // ---- searching
 
 // What is left of a search: n places from lo on.
@@ -25,6 +18,7 @@ struct Left {
 }
 
 // The half that holds the answer, as a choice of two numbers: which one it is can't be foreseen. One place stays as it is.
+#[tactic(auto, using(crate::proofs::Halving::upper_half, crate::proofs::Halving::lower_half))]
 fn halved(row: &[u32], off: u32, left: Left) -> Left
     requires { (1 ≤ left.n) × (left.lo + left.n ≤ length row.now) }
     ensures { (1 ≤ result.n) × (2 * result.n ≤ left.n + 1) × (result.lo + result.n ≤ left.lo + left.n)
@@ -34,7 +28,7 @@ fn halved(row: &[u32], off: u32, left: Left) -> Left
     let mid = left.lo + half;
     let lo = if row[mid] < off { mid } else { left.lo };
     Left {
-        lo: lo,
+        lo,
         n: left.n - half,
     }
 }
@@ -52,7 +46,8 @@ fn halved_five_times(row: &[u32], off: u32, left: Left) -> Left
     halved(row, off, d)
 }
 
-// The number of offsets below a bound, by halving; no row has more than 1,024.
+// The number of offsets below a bound, by halving; no row has more than 1,024. Not by std's `partition_point`: it jumps, and promises nothing of a row that does not rise.
+#[tactic(auto, using(crate::proofs::Halving::lower_none, crate::proofs::Halving::lower_some, crate::proofs::Halving::in_end))]
 pub fn below(row: &[u32], len: usize, off: u32) -> usize
     requires { len ≤ length row.now }
     ensures { result ≡ lower_of row.now len off }
@@ -73,112 +68,99 @@ pub fn below(row: &[u32], len: usize, off: u32) -> usize
 }
 
 // Whether an offset is there.
+#[tactic(auto, unfolding(crate::specs::Search::found_in))]
 pub fn contains(row: &[u32], len: usize, off: u32) -> bool
     requires { len ≤ length row.now }
     ensures { result ≡ found_in row.now len off }
 {
     let i = below(row, len, off);
-    if len <= i {
-        return false;
-    }
-    row[i] == off
+    i < len && row[i] == off
 }
 
-// The same with its place.
-pub fn search(row: &[u32], len: usize, off: u32) -> Place
+// As Rust's `binary_search`: `Ok`, the place where an offset stands, or `Err`, where it would.
+#[tactic(auto, unfolding(crate::specs::Search::search_in, crate::specs::Search::found_in))]
+pub fn search(row: &[u32], len: usize, off: u32) -> Result<usize, usize>
     requires { len ≤ length row.now }
     ensures { result ≡ search_in row.now len off }
 {
     let i = below(row, len, off);
-    if len <= i {
-        return Place::Free(i);
+    if i < len && row[i] == off {
+        Ok(i)
+    } else {
+        Err(i)
     }
-    if row[i] == off {
-        return Place::Found(i);
-    }
-    Place::Free(i)
 }
 
 // `search` with the append fast path: ascending population never searches.
-pub fn spot(row: &[u32], len: usize, off: u32) -> Place
+#[tactic(auto, unfolding(crate::specs::Search::spot_in))]
+pub fn spot(row: &[u32], len: usize, off: u32) -> Result<usize, usize>
     requires { len ≤ length row.now }
     ensures { result ≡ spot_in row.now len off }
 {
-    if len == 0 {
-        return Place::Free(len);
+    if len == 0 || row[len - 1] < off {
+        Err(len)
+    } else {
+        search(row, len, off)
     }
-    if row[len - 1] < off {
-        return Place::Free(len);
-    }
-    search(row, len, off)
 }
 
 // Whether an offset lies in lo to hi, both included.
+#[tactic(auto, unfolding(crate::specs::Search::any_in))]
 pub fn any_in(row: &[u32], len: usize, lo: u32, hi: u32) -> bool
     requires { len ≤ length row.now }
     ensures { result ≡ any_in row.now len lo hi }
 {
     let i = below(row, len, lo);
-    if len <= i {
-        return false;
-    }
-    row[i] <= hi
+    i < len && row[i] <= hi
 }
 
 // ---- editing
 
 // A new offset at its place: the tail moves up by one.
+#[tactic(auto, using(crate::proofs::Edits::copied_up))]
 pub fn insert_at(row: &mut [u32], len: usize, at: usize, off: u32)
     requires { (at ≤ len) × (len < length row.old) }
     ensures { row.new ≡ inserted_at row.old len at off }
 {
-    let mut i = len;
-    while at < i {
-        row[i] = row[i - 1];
-        i -= 1;
-    }
+    row.copy_within(at..len, at + 1);
     row[at] = off;
 }
 
 // A freed row is filled with zeros.
+#[tactic(auto, unfolding(crate::specs::Edit::cleared))]
 pub fn clear(row: &mut [u32], len: usize)
     requires { len ≤ length row.old }
     ensures { row.new ≡ cleared row.old len }
 {
-    let mut i: usize = 0;
-    while i < len {
-        row[i] = 0;
-        i += 1;
-    }
+    row[..len].fill(0);
 }
 
 // A row's first offsets over those of another.
+#[tactic(auto, unfolding(crate::specs::Edit::copied))]
 pub fn copy(src: &[u32], dst: &mut [u32], len: usize)
     requires { (len ≤ length src.now) × (len ≤ length dst.old) }
     ensures { dst.new ≡ copied src.now dst.old len }
 {
-    let mut i: usize = 0;
-    while i < len {
-        dst[i] = src[i];
-        i += 1;
-    }
+    dst[..len].copy_from_slice(&src[..len]);
 }
 
 // ---- union
 
-// Writes the union's front while both lists last, and returns the unused part of the one that lasts longer.
+// Writes the union's front while both lists last, and returns the unused part of the one that lasts longer; `written`, which the docs name, is the front's length.
 pub fn merge<'a>(a: &'a [u32], b: &'a [u32], out: &mut [u32], written: &mut usize) -> &'a [u32]
     requires { length a.now + length b.now ≤ length out.old }
     ensures { (result.now ≡ (merged a.now b.now).rest) × (out.new
         ≡ on_front (merged a.now b.now).front out.old) × (written.new
         ≡ length (merged a.now b.now).front) }
 {
-    let mut i: usize = 0;
-    let mut j: usize = 0;
-    let mut k: usize = 0;
+    let mut i = 0;
+    let mut j = 0;
+    let mut k = 0;
+    // Either index moves on or not, by a test and without a jump: no iterator goes so.
     while i < a.len() && j < b.len() {
         let x = a[i];
         let y = b[j];
+        // By the test that moves i, too: `x.min(y)` takes one of its own, and was slower.
         out[k] = if x <= y { x } else { y };
         i += (x <= y) as usize;
         j += (y <= x) as usize;
@@ -192,12 +174,14 @@ pub fn merge<'a>(a: &'a [u32], b: &'a [u32], out: &mut [u32], written: &mut usiz
 }
 
 // The length of the union, without writing it.
+#[tactic(auto, using(crate::proofs::Merges::union_step, crate::proofs::Merges::union_rest_a, crate::proofs::Merges::union_rest_b))]
 pub fn union_len(a: &[u32], b: &[u32]) -> usize
     ensures { result ≡ length (union a.now b.now) }
 {
-    let mut i: usize = 0;
-    let mut j: usize = 0;
-    let mut k: usize = 0;
+    let mut i = 0;
+    let mut j = 0;
+    let mut k = 0;
+    // The loop of `merge`, for its reason.
     while i < a.len() && j < b.len() {
         let p = a[i];
         let q = b[j];
@@ -209,14 +193,14 @@ pub fn union_len(a: &[u32], b: &[u32]) -> usize
 }
 
 // The union at the front of out, and its length.
+#[tactic(auto, using(crate::proofs::Unions::merged_le), unfolding(crate::specs::Union::union, crate::specs::Union::on_front, crate::specs::Edit::copied))]
 pub fn union_sorted<'a>(a: &'a [u32], b: &'a [u32], out: &mut [u32]) -> usize
     requires { length a.now + length b.now ≤ length out.old }
     ensures { (result ≡ length (union a.now b.now)) × (out.new
         ≡ on_front (union a.now b.now) out.old) }
 {
-    let mut k: usize = 0;
-    let rest = merge(a, b, out, &mut k);
-    let n = rest.len();
-    copy(rest, &mut out[k..], n);
-    k + n
+    let mut front = 0;
+    let rest = merge(a, b, out, &mut front);
+    copy(rest, &mut out[front..], rest.len());
+    front + rest.len()
 }

@@ -5,6 +5,7 @@ ghost use Rattle.sparse.specs.Listed.{offsets_from};
 
 // The ids from offset `from` on, of the chunk whose first id is `base`, to the places from `k` on, as far as there are any. Answers the first unused place.
 // Each offset is taken mod 2^s, the chunk's size, so that no row leads outside its chunk.
+#[tactic(auto, using(crate::proofs::Halving::lower_le))]
 pub fn ids(
     row: &[u32],
     len: usize,
@@ -18,12 +19,10 @@ pub fn ids(
     ensures { let ns = plus base (offsets_from row.now len (2 ^ s) from) in
         (out.new ≡ fill out.old k ns) × (result ≡ fill_to out.old k ns) }
 {
-    let mut i = crate::below(row, len, from);
-    let mut n = k;
-    while i < len && n < out.len() {
-        out[n] = (base + (row[i] as u64) % (1 << s)) as i64;
-        i += 1;
-        n += 1;
+    let first = crate::below(row, len, from);
+    let n = (len - first).min(out.len() - k);
+    for (i, off) in row[first..first + n].iter().enumerate() {
+        out[k + i] = (base + u64::from(*off) % (1 << s)) as i64;
     }
-    n
+    k + n
 }

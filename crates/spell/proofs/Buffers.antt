@@ -1,37 +1,10 @@
 -- Laws of text behind text. Assumes nothing.
 use mathlib.Core.Path.{◌≡◌, sym, ◌∙◌, ap}
-use mathlib.Core.List.{List, [], ◌∷◌, ◌++◌, append_assoc, append-nil}
-use Prim.Native.Nat.{ℕ, suc, ◌+◌, ◌≤◌, ◌<◌}
-use native.Mathlib.Numerals.{add-one}
+use mathlib.Core.List.{List, [], ◌++◌, append_assoc, append-nil}
+use Prim.Native.Nat.{ℕ, ◌+◌, ◌≤◌}
 use native.Mathlib.Omega.{arith}
-use lib.ListN.{length, take, get_or, set, length-append}
-use lib.Seq.{take-suc, take-suc-set, take_all}
+use lib.ListN.{length, take, length-append}
 use Rattle.spell.specs.Spell.{Appends}
-
--- ---- one byte more
-
-module _ (old bytes : List ℕ) (at : ℕ) where
-  pub none_put : take (at + 0) old ≡ take at old ++ take 0 bytes
-  none_put =
-      let e : at + 0 ≡ at = omega arith in
-      ap (λ (n : ℕ). take n old) e ∙ sym (append-nil (take at old))
-
-  pub byte_put : (new : List ℕ) (i : ℕ) → i < length bytes → at + i < length new → take (at + i) new ≡ take at old ++ take i bytes → take (at + (i + 1)) (set new (at + i) (get_or bytes i 0)) ≡ take at old ++ take (i + 1) bytes
-  byte_put new i h k e =
-      let s : at + (i + 1) ≡ suc (at + i) = omega arith in
-      ap (λ (n : ℕ). take n (set new (at + i) (get_or bytes i 0))) s
-      ∙ take-suc-set new (at + i) (get_or bytes i 0) k
-      ∙ ap (λ (l : List ℕ). l ++ (get_or bytes i 0 ∷ [])) e
-      ∙ append_assoc (take at old) (take i bytes) (get_or bytes i 0 ∷ [])
-      ∙ ap (λ (l : List ℕ). take at old ++ l) (sym (take-suc bytes i 0 h) ∙ ap (λ (n : ℕ). take n bytes) (sym (add-one i)))
-
-  pub all_put : (new : List ℕ) (i : ℕ) → i ≤ length bytes → length bytes ≤ i → take (at + i) new ≡ take at old ++ take i bytes → Appends (length bytes) old new at (at + i) bytes
-  all_put new i h k e =
-      record {
-        short = omega arith;
-        ends = omega arith;
-        says = e ∙ ap (λ (l : List ℕ). take at old ++ l) (take_all i bytes k);
-      }
 
 -- ---- one text behind another
 

@@ -3,12 +3,13 @@ use mathlib.Core.Path.{◌≡◌, refl, sym, ◌∙◌, ap}
 use mathlib.Core.Bool.{Bool, true, false, cond, ◌&&◌}
 use mathlib.Core.List.{List, [], ◌∷◌, ◌++◌}
 use Prim.Native.Nat.{ℕ, zero, suc, ◌+◌, ◌-◌, ◌*◌, ◌/◌, ◌%◌, ◌^◌, ◌≤◌, ◌<◌}
+use native.Mathlib.Nat.{pow-le-pow_right}
 use native.Mathlib.Omega.{arith}
 use lib.Dec.{leb, ltb}
 use lib.ListN.{length, length-append}
 use borrow.Author.Tests.{leb-true, leb-false, ltb-true, ltb-false, le-leb, lt-ltb, le-ltb}
 use Rattle.lines.specs.Line.{is_digit, all_digits, value_from, value, size_line}
-use Rattle.lines.specs.declared.Number.TheVariants as number
+use Rattle.std.specs.Prelude.{Some, None}
 use Rattle.io.specs.Digits.{hex_digit_ascii, last_digits, IsDigitCount}
 use Rattle.spell.specs.Spell.{decimal_in, decimal}
 
@@ -79,14 +80,14 @@ unfolding decimal
 reads_decimal n h = reads_in 19 n (omega arith)
 
 -- as S of the program's input
-pub read_back : (n : ℕ) → n < 2 ^ 64 → size_line (decimal n) ≡ number.Of n
+pub read_back : (n : ℕ) → n < 2 ^ 64 → size_line (decimal n) ≡ Some n
 unfolding size_line
 read_back n h =
     let r = reads_decimal n h in
     let w : value (decimal n) < 2 ^ 64 = omega (arith, r.its_value) in
     let t : (all_digits (decimal n) && (leb 1 (length (decimal n)) && (leb (length (decimal n)) 20 && ltb (value (decimal n)) (2 ^ 64)))) ≡ true
     = rw (r.digits_only, le-leb 1 (length (decimal n)) r.some, le-leb (length (decimal n)) 20 r.most, lt-ltb (value (decimal n)) (2 ^ 64) w) in
-    ap (λ (b : Bool). cond b (number.Of (value (decimal n))) number.Bad) t ∙ ap number.Of r.its_value
+    ap (λ (b : Bool). cond b (Some (value (decimal n))) None) t ∙ ap Some r.its_value
 
 -- ---- as the digits are found
 
@@ -117,16 +118,6 @@ fewest_are (suc k) n w h =
     digits_are k 20 n h w.1 (λ (l : 1 < suc k). rw e at (w.2 l))
 
 -- a u64 has at most 20 digits
-many : (k : ℕ) → 20 ≤ k → 10 ^ 20 ≤ 10 ^ k
-many zero h = absurd (omega arith)
-many (suc k) h = go (leb 20 k) refl (many k)
-  where
-    go : (t : Bool) → leb 20 k ≡ t → (20 ≤ k → 10 ^ 20 ≤ 10 ^ k) → 10 ^ 20 ≤ 10 ^ suc k
-    go true e more = omega (arith, more (leb-true 20 k e))
-    go false e more =
-        let f : suc k ≡ 20 = omega (arith, leb-false 20 k e) in
-        rw f (omega arith)
-
 pub fewest_few : (k n : ℕ) → IsDigitCount 10 1 n k → n < 2 ^ 64 → k ≤ 20
 fewest_few k n w h = go (leb k 20) refl
   where
@@ -135,4 +126,5 @@ fewest_few k n w h = go (leb k 20) refl
     go false e =
         let l : 20 < k = leb-false k 20 e in
         let p : 10 ^ (k - 1) ≤ n = w.2 (omega arith) in
-        absurd (omega (arith, many (k - 1) (omega arith)))
+        let q : 10 ^ 20 ≤ 10 ^ (k - 1) = pow-le-pow_right {n = 10} (omega arith) {i = 20} {j = k - 1} (omega arith) in
+        absurd (omega arith)

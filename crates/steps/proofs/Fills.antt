@@ -2,7 +2,7 @@
 use mathlib.Core.Path.{◌≡◌, sym, ◌∙◌, ap, ap₂}
 use mathlib.Core.List.{List, ◌++◌}
 use Prim.Native.Nat.{ℕ, ◌+◌, ◌-◌, ◌*◌}
-use lib.ListN.{take, drop, replicate, take-append-drop}
+use lib.ListN.{take, drop, take-append-drop}
 use lib.Seq.{drop-drop}
 use Rattle.dense.specs.Bits.{with_row}
 use Rattle.document.specs.Sizes.{top}
@@ -10,8 +10,8 @@ use Rattle.layout.specs.Sizes.{wide}
 use Rattle.layout.specs.Mem.{mem}
 use Rattle.layout.specs.Places.{encoded, row_part, page_part}
 use Rattle.document.specs.declared.sizes.Sizes.{Sizes}
-use Rattle.layout.specs.Writes.{put_part, put_word, put_row_owner, put_page_owner, put_row}
-use Rattle.layout.specs.declared.place.Place.TheVariants.{Absent, Sparse, Dense}
+use Rattle.layout.specs.Writes.{put_part, put_word, put_page_owner}
+use Rattle.layout.specs.declared.place.Place.TheVariants.{Absent, Dense}
 use Rattle.steps.specs.Steps.{paged}
 use Rattle.layout.proofs.Lent.{span}
 use Rattle.steps.proofs.Lent.{put_lent}
@@ -33,20 +33,8 @@ put_back xs a n =
     ap (λ (u : List ℕ). take a xs ++ (take n (drop a xs) ++ u)) (sym (drop-drop n a xs))
     ∙ ap (λ (u : List ℕ). take a xs ++ u) (take-append-drop n (drop a xs)) ∙ take-append-drop a xs
 
--- ---- a chunk that goes into page p
-
-module _ (h : Sizes) (c p : ℕ) (ps rs bs t : List ℕ) where
-  -- without members
-  pub blank_paged : (t' : List ℕ) → t' ≡ put_page_owner h (put_word h t c (encoded (Dense p))) p (c + 1)
-      → mem ps rs bs t' ≡ paged h (mem ps rs bs t) c Absent p (page_part h ps p)
-  unfolding paged
-  blank_paged t' e = ap₂ (λ (u v : List ℕ). mem u rs bs v) (sym (put_back ps (p * wide h) (wide h))) e
-
-  -- with those of row r
-  pub row_paged : (r l : ℕ) (ps' rs' t' : List ℕ) → ps' ≡ put_part ps (p * wide h) (wide h) (with_row (page_part h ps p) (row_part h rs r) (top h) l)
-      → rs' ≡ put_row h rs r (replicate h.m 0) → t' ≡ put_page_owner h (put_row_owner h (put_word h t c (encoded (Dense p))) r 0) p (c + 1)
-      → mem ps' rs' bs t' ≡ paged h (mem ps rs bs t) c (Sparse r l) p (with_row (page_part h ps p) (row_part h rs r) (top h) l)
-  unfolding paged
-  row_paged r l ps' rs' t' e f g =
-      ap (λ (u : List ℕ). mem u rs' bs t') e
-      ∙ ap₂ (λ (u v : List ℕ). mem (put_part ps (p * wide h) (wide h) (with_row (page_part h ps p) (row_part h rs r) (top h) l)) u bs v) f g
+-- a chunk without members goes into page p
+pub blank_paged : (h : Sizes) (c p : ℕ) (ps rs bs t t' : List ℕ) → t' ≡ put_page_owner h (put_word h t c (encoded (Dense p))) p (c + 1)
+    → mem ps rs bs t' ≡ paged h (mem ps rs bs t) c Absent p (page_part h ps p)
+unfolding paged
+blank_paged h c p ps rs bs t t' e = ap₂ (λ (u v : List ℕ). mem u rs bs v) (sym (put_back ps (p * wide h) (wide h))) e

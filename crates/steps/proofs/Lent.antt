@@ -1,12 +1,10 @@
 -- A slot of a pool that was lent and came back; a row cleared whole. Assumes nothing.
-use mathlib.Core.Path.{◌≡◌, refl, sym, ◌∙◌, ap, ap₂}
-use mathlib.Core.List.{List, ◌++◌, append-nil}
+use mathlib.Core.Path.{◌≡◌, refl, ◌∙◌, ap, ap₂}
+use mathlib.Core.List.{List, ◌++◌}
 use Prim.Native.Nat.{ℕ, ◌+◌, ◌-◌, ◌*◌, ◌≤◌}
 use native.Mathlib.Omega.{arith}
 use lib.ListN.{length, take, drop, replicate, length-take, length-drop}
-use lib.Seq.{drop-drop, drop-length}
-use Rattle.sparse.specs.Edit.{cleared}
-use Rattle.layout.specs.Places.{row_part}
+use lib.Seq.{drop-drop}
 use Rattle.document.specs.declared.sizes.Sizes.{Sizes}
 use Rattle.layout.specs.Writes.{put_part, put_row}
 use Rattle.layout.proofs.Lent.{span}
@@ -18,12 +16,9 @@ put_lent xs i k a n p q f ys e =
     ap₂ (λ (u v : List ℕ). take i xs ++ (u ++ v)) (e ∙ ap (λ (j : ℕ). f (take j (drop i xs))) (span i k)) (ap (λ (j : ℕ). drop j (drop i xs)) (span i k) ∙ drop-drop k i xs)
     ∙ ap₂ (λ (u v : ℕ). take u xs ++ (f (take v (drop u xs)) ++ drop (u + v) xs)) p q
 
--- a row that is cleared whole
-cleared_all : (row : List ℕ) (m : ℕ) → length row ≡ m → cleared row m ≡ replicate m 0
-unfolding cleared
-cleared_all row m e = ap (λ (u : List ℕ). replicate m 0 ++ u) (ap (λ (k : ℕ). drop k row) (sym e) ∙ drop-length row) ∙ append-nil (replicate m 0)
-
-pub free_put : (rows : List ℕ) (h : Sizes) (r i : ℕ) → i ≡ r * h.m → r * h.m + h.m ≤ length rows → (ys : List ℕ) → ys ≡ cleared (take (i + h.m - i) (drop i rows)) h.m → take i rows ++ (ys ++ drop (i + h.m - i) (drop i rows)) ≡ put_row h rows r (replicate h.m 0)
+-- a row filled with zeros
+pub free_put : (rows : List ℕ) (h : Sizes) (r i : ℕ) → i ≡ r * h.m → r * h.m + h.m ≤ length rows → (ys : List ℕ) → ys ≡ replicate (length (take (i + h.m - i) (drop i rows))) 0
+    → take i rows ++ (ys ++ drop (i + h.m - i) (drop i rows)) ≡ put_row h rows r (replicate h.m 0)
 free_put rows h r i e l ys f =
-    put_lent rows i h.m (r * h.m) h.m e refl (λ (w : List ℕ). cleared w h.m) ys f
-    ∙ ap (put_row h rows r) (cleared_all (row_part h rows r) h.m (simp (length-take, length-drop) (omega arith)))
+    put_lent rows i h.m (r * h.m) h.m e refl (λ (w : List ℕ). replicate (length w) 0) ys f
+    ∙ ap (λ (k : ℕ). put_row h rows r (replicate k 0)) (simp (length-take, length-drop) (omega arith))

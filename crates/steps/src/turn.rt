@@ -20,10 +20,9 @@ pub fn free_row(rows: &mut [u32], h: Sizes, r: u64)
     requires { InRange h × (r < h.r) × (h.r * h.m ≤ length rows.old) }
     ensures { rows.new ≡ put_row h rows.old r (replicate h.m 0) }
 {
-    let m = h.m as usize;
     let a = head::row_at(h, r) as usize;
-    let e = a + m;
-    sparse::clear(&mut rows[a..e], m);
+    let e = a + h.m as usize;
+    rows[a..e].fill(0);
 }
 
 // Chunk c stands in page p, and row r, which it had, has no owner.
@@ -42,12 +41,11 @@ pub fn fill_page(pages: &mut [u64], rows: &[u32], h: Sizes, r: u64, l: usize, p:
     ensures { pages.new ≡ put_part pages.old (p * wide h) (wide h)
         (with_row (page_part h pages.old p) (row_part h rows.now r) (top h) l) }
 {
-    let s = h.s;
     let a = head::row_at(h, r) as usize;
     let e = a + h.m as usize;
     let b = head::page_at(h, p) as usize;
-    let f = b + power::pow2(s - 6) as usize;
-    dense::write_row(&mut pages[b..f], &rows[a..e], l, s);
+    let f = b + power::pow2(h.s - 6) as usize;
+    dense::write_row(&mut pages[b..f], &rows[a..e], l, h.s);
 }
 
 // Chunk c, absent until now, stands in page p.
@@ -60,6 +58,7 @@ pub fn enter_page(table: &mut [u64], h: Sizes, c: u64, p: u64)
 }
 
 // Chunk c, until now the l members of row r, stands in page p, and the row is free again.
+#[tactic(auto, unfolding(crate::specs::Steps::paged))]
 pub fn turn_row(
     pages: &mut [u64],
     rows: &mut [u32],

@@ -1,5 +1,5 @@
 -- The program's text: a plan, `bad line N`, `refused C`.
-use Rattle.std.specs.Prelude.{List, [], ◌∷◌, ◌++◌, ℕ, zero, suc, ◌*◌, ℤ, pos, negsuc}
+use Rattle.std.specs.Prelude.{List, [], ◌∷◌, ◌++◌, ℕ, zero, suc, ◌*◌, ℤ, pos, negsuc, Ok, Err}
 use Rattle.sums.specs.Ids.{Ids, total}
 use Rattle.sums.specs.Cuts.{size, parts, End, before, none, Interval, held, part}
 use Rattle.document.specs.Plan.{plan_of}
@@ -7,13 +7,12 @@ use Rattle.document.specs.Spans.{ids_answer, ranks_answer}
 use Rattle.document.specs.declared.plan.Plan.{Plan}
 use Rattle.document.specs.declared.plan.Span.{Span}
 use Rattle.document.specs.declared.plan.Span.TheVariants.{Between, From}
-use Rattle.document.specs.declared.plan.Spanned.{Spanned}
-use Rattle.document.specs.declared.plan.Spanned.TheVariants as spanned
-use Rattle.document.specs.declared.plan.Ranks.{Ranks}
-use Rattle.document.specs.declared.plan.Ranks.TheVariants as ranks
-use Rattle.program.specs.declared.Said.{Said}
-use Rattle.program.specs.declared.Said.TheVariants as said
 use Rattle.spell.specs.Spell.{decimal}
+use Rattle.document.specs.Results.{Ranked, Spanned}
+use Rattle.program.specs.Faults.{Said}
+use Rattle.program.specs.declared.Fault.TheVariants.{Line, Call}
+use Rattle.document.specs.Refusals.{number}
+use Rattle.document.specs.declared.refusal.Refusal.{Refusal}
 
 -- ---- a partition's line
 
@@ -36,13 +35,13 @@ span_text (From lo) = end_text lo ++ (32 ∷ 101 ∷ 110 ∷ 100 ∷ [])
 
 -- of a plan's own partitions none is refused
 abbrev pub spanned_text : Spanned → List ℕ
-spanned_text (spanned.Of i) = span_text i
-spanned_text (spanned.Refused n) = []
+spanned_text (Ok i) = span_text i
+spanned_text (Err n) = []
 
 -- first rank and count
-abbrev pub ranks_text : Ranks → List ℕ
-ranks_text (ranks.Of first count) = spaced first ++ spaced count
-ranks_text (ranks.Refused n) = []
+abbrev pub ranks_text : Ranked → List ℕ
+ranks_text (Ok r) = spaced r.first ++ spaced r.count
+ranks_text (Err n) = []
 
 -- number, low, high, first rank, count
 abbrev pub part_text : Plan → List ℤ → ℕ → List ℕ
@@ -90,34 +89,33 @@ fault_text words n = words ++ (spaced n ++ newline)
 abbrev pub bad_text : ℕ → List ℕ
 bad_text n = fault_text (98 ∷ 97 ∷ 100 ∷ 32 ∷ 108 ∷ 105 ∷ 110 ∷ 101 ∷ []) n
 
-abbrev pub refused_text : ℕ → List ℕ
-refused_text c = fault_text (114 ∷ 101 ∷ 102 ∷ 117 ∷ 115 ∷ 101 ∷ 100 ∷ []) c
+abbrev pub refused_text : Refusal → List ℕ
+refused_text c = fault_text (114 ∷ 101 ∷ 102 ∷ 117 ∷ 115 ∷ 101 ∷ 100 ∷ []) (number c)
 
 -- ---- what the program writes
 
 -- only the plan, only `bad line N`, only `refused C`
 abbrev pub said_text : Said → List ℤ → List ℕ
-said_text (said.Plan p) bs = plan_text p bs
-said_text (said.Bad n) bs = bad_text n
-said_text (said.Refused c) bs = refused_text c
+said_text (Ok p) bs = plan_text p bs
+said_text (Err (Line n)) bs = bad_text n
+said_text (Err (Call c)) bs = refused_text c
 
 -- ---- line by line
 
 abbrev pub first_text : Said → List ℕ
-first_text (said.Plan p) = head_text p
-first_text (said.Bad n) = bad_text n
-first_text (said.Refused c) = refused_text c
+first_text (Ok p) = head_text p
+first_text (Err (Line n)) = bad_text n
+first_text (Err (Call c)) = refused_text c
 
 -- lines after the first
 abbrev pub line_count : Said → ℕ
-line_count (said.Plan p) = p.partitions
-line_count (said.Bad n) = 0
-line_count (said.Refused c) = 0
+line_count (Ok p) = p.partitions
+line_count (Err (Line n)) = 0
+line_count (Err (Call c)) = 0
 
 abbrev pub line_text : Said → List ℤ → ℕ → List ℕ
-line_text (said.Plan p) bs k = part_text p bs k
-line_text (said.Bad n) bs k = []
-line_text (said.Refused c) bs k = []
+line_text (Ok p) bs k = part_text p bs k
+line_text (Err f) bs k = []
 
 -- lines 0 to n - 1 of them
 unfoldable pub lines_text : Said → List ℤ → ℕ → List ℕ

@@ -9,7 +9,7 @@ ghost use Rattle.spell.specs.Spell.{Appends};
 ghost use Rattle.texts.specs.Text.{newline, spaced, head_text, fault_text, first_text, line_count, line_text};
 
 use document::plan::Plan;
-use program::Said;
+use program::Fault;
 
 // Members and partitions.
 fn head(out: &mut [u8], p: Plan) -> usize
@@ -33,36 +33,34 @@ fn fault(out: &mut [u8], words: &[u8], n: u64) -> usize
 }
 
 // The first line.
-pub fn first(s: Said, out: &mut [u8; 105]) -> usize
+pub fn first(s: Result<Plan, Fault>, out: &mut [u8; 105]) -> usize
     ensures prefix_len { IsPrefixLen result out.new }
     ensures out_after { take result out.new ≡ first_text s }
 {
     match s {
-        Said::Plan(p) => head(out, p),
-        Said::Bad(n) => fault(out, b"bad line", n),
-        Said::Refused(c) => fault(out, b"refused", c),
+        Ok(p) => head(out, p),
+        Err(Fault::Line(n)) => fault(out, b"bad line", n),
+        Err(Fault::Call(c)) => fault(out, b"refused", c.number()),
     }
 }
 
 // How many lines follow it.
-pub fn count(s: Said) -> u64
+pub fn count(s: Result<Plan, Fault>) -> u64
     ensures { result ≡ line_count s }
 {
     match s {
-        Said::Plan(p) => p.partitions,
-        Said::Bad(_) => 0,
-        Said::Refused(_) => 0,
+        Ok(p) => p.partitions,
+        Err(_) => 0,
     }
 }
 
 // Line k of them, counted from 0.
-pub fn line(s: Said, bounds: &[i64], k: u64, out: &mut [u8; 105]) -> usize
+pub fn line(s: Result<Plan, Fault>, bounds: &[i64], k: u64, out: &mut [u8; 105]) -> usize
     ensures prefix_len { IsPrefixLen result out.new }
     ensures out_after { take result out.new ≡ line_text s bounds.now k }
 {
     match s {
-        Said::Plan(p) => part::line(out, p, bounds, k),
-        Said::Bad(_) => 0,
-        Said::Refused(_) => 0,
+        Ok(p) => part::line(out, p, bounds, k),
+        Err(_) => 0,
     }
 }

@@ -4,9 +4,9 @@ ghost use Rattle.document.specs.Spans.{ids_answer, ranks_answer};
 ghost use Rattle.spell.specs.Spell.{Appends};
 ghost use Rattle.texts.specs.Text.{newline, spaced, end_text, span_text, spanned_text, ranks_text, part_text};
 
-use document::plan::{Plan, Ranks, Span, Spanned};
+use document::plan::{Plan, Ranks, Span};
 use intervals::interval;
-use numbers::{Natural, id};
+use numbers::id;
 
 // A space, and a number.
 pub fn spaced(out: &mut [u8], at: usize, n: u64) -> usize
@@ -23,8 +23,8 @@ fn end_of(out: &mut [u8], at: usize, z: i64) -> usize
     ensures { Appends 21 out.old out.new at result (end_text z) }
 {
     match id::natural(z) {
-        Natural::At(n) => spaced(out, at, n),
-        Natural::Negative => spell::text(out, at, b" min"),
+        Some(n) => spaced(out, at, n),
+        None => spell::text(out, at, b" min"),
     }
 }
 
@@ -51,8 +51,8 @@ fn ids(out: &mut [u8], at: usize, p: Plan, bounds: &[i64], k: u64) -> usize
     ensures { Appends 42 out.old out.new at result (spanned_text (ids_answer p bounds.now k)) }
 {
     match interval::ids(p, bounds, k) {
-        Spanned::Of(i) => span(out, at, i),
-        Spanned::Refused(_) => at,
+        Ok(i) => span(out, at, i),
+        Err(_) => at,
     }
 }
 
@@ -62,11 +62,11 @@ fn ranks(out: &mut [u8], at: usize, p: Plan, k: u64) -> usize
     ensures { Appends 42 out.old out.new at result (ranks_text (ranks_answer p k)) }
 {
     match interval::ranks(p, k) {
-        Ranks::Of(first, count) => {
+        Ok(Ranks { first, count }) => {
             let a = spaced(out, at, first);
             spaced(out, a, count)
         }
-        Ranks::Refused(_) => at,
+        Err(_) => at,
     }
 }
 

@@ -13,7 +13,6 @@ use denote.Triple.Spec.{Meets}
 use Rattle.document.specs.Calls as calls
 use Rattle.document.specs.Calls.{whether, that, many, maybe, listed}
 use Rattle.document.specs.Spans.{ids_answer, ranks_answer, in_partition, range_meets}
-use Rattle.document.specs.declared.answer.Truth.TheVariants.{Is}
 use Rattle.numbers.specs.Budget.{slots_for_budget, file_bounded_max_id}
 use Rattle.layout.specs.SetUp.{sizes_of}
 use Rattle.document.specs.Union as union
@@ -135,6 +134,7 @@ use Rattle.lists.proofs.read.rank_if_set_all.Met as rank_if_set_all-met
 use Rattle.lists.proofs.insert.insert_all.Met as insert_all-met
 use Rattle.numbers.proofs.budget.slots_for_budget.Met as budgeting-met
 use Rattle.numbers.proofs.budget.file_bounded_max_id.Met as bounding-met
+use Rattle.std.specs.Prelude.{Ok}
 
 module _ {M : Type 1} {𝓤 : Ura M} (𝓛 : Logic 𝓤) where
   open 𝓛 use {H}
@@ -200,7 +200,7 @@ module _ {M : Type 1} {𝓤 : Ura M} (𝓛 : Logic 𝓤) where
     pub total_count_is : total_count.spec 𝓛 m run ≡ Ensures 𝓛 total_count.ended (λ κs a r e. Answers (four a) calls.total_count (many r))
     total_count_is = refl
 
-    pub check_is : check.spec 𝓛 m run ≡ Ensures 𝓛 check.ended (λ κs a r e. Answers (four a) calls.check (whether (Is r)))
+    pub check_is : check.spec 𝓛 m run ≡ Ensures 𝓛 check.ended (λ κs a r e. Answers (four a) calls.check (whether (Ok r)))
     check_is = refl
 
     pub plan_is : plan.spec 𝓛 m run ≡ Ensures 𝓛 plan.ended (λ κs a r e. Plans (four a) a.1.1.1.1.0 a.1.1.1.1.1.0.now r e.1.1.1.1.1.0.now)
@@ -333,7 +333,7 @@ module _ {M : Type 1} {𝓤 : Ura M} (𝓛 : Logic 𝓤) where
     total_count_meets = total_count-met.met 𝓤 𝓛 𝓜 𝓡
 
     pub check_meets : Wired 𝓡.env check-at.code → Meets 𝓛 check.signature (𝓡.run (𝓡.env check-at.name))
-        (Ensures 𝓛 check.ended (λ κs a r e. Answers (four a) calls.check (whether (Is r))))
+        (Ensures 𝓛 check.ended (λ κs a r e. Answers (four a) calls.check (whether (Ok r))))
     check_meets = check-met.met 𝓤 𝓛 𝓜 𝓡
 
     pub plan_meets : Wired 𝓡.env plan_at.code → Meets 𝓛 plan.signature (𝓡.run (𝓡.env plan_at.name))

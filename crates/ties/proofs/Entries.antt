@@ -13,12 +13,6 @@ use denote.Triple.Spec.{Meets}
 use Rattle.document.specs.Calls as calls
 use Rattle.document.specs.Calls.{whether, that, many, maybe, listed}
 use Rattle.document.specs.Spans.{ids_answer, ranks_answer, in_partition, range_meets}
-use Rattle.document.specs.declared.answer.Outcome.{Outcome}
-use Rattle.document.specs.declared.answer.Truth.{Truth}
-use Rattle.document.specs.declared.answer.Truth.TheVariants.{Is}
-use Rattle.document.specs.declared.answer.Amount.{Amount}
-use Rattle.document.specs.declared.answer.Perhaps.{Perhaps}
-use Rattle.document.specs.declared.plan.Planning.{Planning}
 use Rattle.numbers.specs.Budget.{slots_for_budget, file_bounded_max_id}
 use Rattle.layout.specs.SetUp.{sizes_of}
 use Rattle.document.specs.Union as union
@@ -132,6 +126,8 @@ use Rattle.exports.proofs.list.bp_rank_if_set_all.Met as bp_rank_if_set_all-met
 use Rattle.exports.proofs.list.bp_insert_all.Met as bp_insert_all-met
 use Rattle.exports.proofs.number.bp_slots_for_budget.Met as bp_slots_for_budget-met
 use Rattle.exports.proofs.number.bp_file_bounded_max_id.Met as bp_file_bounded_max_id-met
+use Rattle.document.specs.Results.{Amount, Outcome, Perhaps, Planning, Truth}
+use Rattle.std.specs.Prelude.{Ok}
 
 module _ {M : Type 1} {𝓤 : Ura M} (𝓛 : Logic 𝓤) where
   open 𝓛 use {H}
@@ -197,7 +193,7 @@ module _ {M : Type 1} {𝓤 : Ura M} (𝓛 : Logic 𝓤) where
     pub bp_total_count_is : bp_total_count.spec 𝓛 m run ≡ Ensures 𝓛 bp_total_count.ended (λ κs a r e. Coded amount_code (λ (t : Amount). Answers (four a) calls.total_count (many t)) r)
     bp_total_count_is = refl
 
-    pub bp_check_is : bp_check.spec 𝓛 m run ≡ Ensures 𝓛 bp_check.ended (λ κs a r e. Answers (four a) calls.check (whether (Is r)))
+    pub bp_check_is : bp_check.spec 𝓛 m run ≡ Ensures 𝓛 bp_check.ended (λ κs a r e. Answers (four a) calls.check (whether (Ok r)))
     bp_check_is = refl
 
     pub bp_plan_is : bp_plan.spec 𝓛 m run ≡ Ensures 𝓛 bp_plan.ended (λ κs a r e. Coded planning_code (λ (t : Planning). Plans (four a) a.1.1.1.1.0 a.1.1.1.1.1.0.now t e.1.1.1.1.1.0.now) r)
@@ -321,7 +317,7 @@ module _ {M : Type 1} {𝓤 : Ura M} (𝓛 : Logic 𝓤) where
     bp_total_count_meets = bp_total_count-met.met 𝓤 𝓛 𝓜 𝓡
 
     pub bp_check_meets : Wired 𝓡.env bp_check-at.code → Meets 𝓛 bp_check.signature (𝓡.run (𝓡.env bp_check-at.name))
-        (Ensures 𝓛 bp_check.ended (λ κs a r e. Answers (four a) calls.check (whether (Is r))))
+        (Ensures 𝓛 bp_check.ended (λ κs a r e. Answers (four a) calls.check (whether (Ok r))))
     bp_check_meets = bp_check-met.met 𝓤 𝓛 𝓜 𝓡
 
     pub bp_plan_meets : Wired 𝓡.env bp_plan-at.code → Meets 𝓛 bp_plan.signature (𝓡.run (𝓡.env bp_plan-at.name))

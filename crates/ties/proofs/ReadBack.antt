@@ -7,12 +7,7 @@ use Rattle.document.specs.Calls.{Call, Ask, whether, that, many, maybe}
 use Rattle.document.specs.Union.{Join}
 use Rattle.document.specs.Spans.{ids_answer, ranks_answer}
 use Rattle.document.specs.declared.sizes.Sizes.{Sizes}
-use Rattle.document.specs.declared.answer.Outcome.{Outcome}
-use Rattle.document.specs.declared.answer.Truth.{Truth}
-use Rattle.document.specs.declared.answer.Amount.{Amount}
-use Rattle.document.specs.declared.answer.Perhaps.{Perhaps}
 use Rattle.document.specs.declared.plan.Plan.{Plan}
-use Rattle.document.specs.declared.plan.Planning.{Planning}
 use Rattle.layout.specs.Mem.{Mem}
 use Rattle.contracts.specs.Does.{Does, Answers, SetsUp, Joins}
 use Rattle.cuts.specs.Promise.{Plans}
@@ -30,6 +25,7 @@ use Rattle.codes.specs.Codes.{OutcomeNumbered, TruthNumbered, AmountNumbered, Pe
 use Rattle.codes.proofs.Codes.{outcome_in, truth_in, amount_in, perhaps_in, planning_in, spanned_in, ranks_in, coded_back}
 use Rattle.codes.proofs.Codes.{outcome_back, truth_back, amount_back, perhaps_back, planning_back, spanned_back, ranks_back}
 use Rattle.ties.proofs.Numbered.{numbered, numbered_reading, numbered_set_up, numbered_union, numbered_plan, numbered_ids, numbered_ranks, numbered_by_range, numbered_by_partition, numbered_list}
+use Rattle.document.specs.Results.{Amount, Outcome, Perhaps, Planning, Truth}
 
 done_read : (says : Outcome → Type 0) → ((a : Outcome) → says a → OutcomeNumbered a) → (r : DoneAnswer) → Coded outcome_code says r → says (outcome_in r)
 done_read says = coded_back outcome_code outcome_in OutcomeNumbered outcome_back says

@@ -52,7 +52,7 @@ word_placed : (w : ℕ) → w ≢ 0 → is_placed (decoded w) ≡ true
 word_placed w d = go (eqb w 0) (ne_eqb w 0 d) (ltb w 268435456)
   where
     go : (a : Bool) → a ≡ false → (b : Bool) → is_placed (cond a Absent (cond b (Sparse ((w - 1) / 2048) ((w - 1) % 2048)) (Dense (w - 268435456)))) ≡ true
-    go true e b = absurd (let z : ◌≡◌ {A = ℕ} 0 1 = cc in omega arith)
+    go true e b = absurd cc
     go false e true = refl
     go false e false = refl
 
@@ -126,7 +126,7 @@ module _ {x y : Mem} (w : Walked x (head x)) (v : Walked y (head y)) (same : sam
     not_here none = ap is_placed (standing_is w c) ∙ go (is_placed (place_of (head x) x.table c)) refl
       where
         go : (b : Bool) → is_placed (place_of (head x) x.table c) ≡ b → b ≡ false
-        go true k = absurd (let a = s.kept c k in let b = ap is_placed (absent none) in let z : ◌≡◌ {A = ℕ} 0 1 = cc in omega arith)
+        go true k = absurd (let a = s.kept c k in let b = ap is_placed (absent none) in cc)
         go false k = refl
 
     new : Missing → new_entry x y e ≡ true

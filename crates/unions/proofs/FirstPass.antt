@@ -51,7 +51,7 @@ unfolding kinds
 kind_at z c o e = ap kind_of e
 
 pub dense_placed : (x y : Mem) (o q : Place) → union_dense x y o q ≡ true → is_placed q ≡ true
-dense_placed x y o Absent d = absurd (let z : ◌≡◌ {A = ℕ} 0 1 = cc in omega arith)
+dense_placed x y o Absent d = absurd cc
 dense_placed x y o (Sparse i k) d = refl
 dense_placed x y o (Dense p) d = refl
 

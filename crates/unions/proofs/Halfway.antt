@@ -2,7 +2,6 @@
 use mathlib.Core.Path.{◌≡◌, refl, sym, ap, ap₂, ◌∙◌}
 use mathlib.Core.Bool.{Bool, true, false, cond, ◌||◌}
 use Prim.Native.Nat.{ℕ, ◌+◌, ◌*◌, ◌/◌, ◌%◌}
-use native.Mathlib.Omega.{arith}
 use lib.Dec.{leb}
 use lib.Pow.{high}
 use Rattle.sums.specs.Ids.{count}
@@ -11,7 +10,6 @@ use Rattle.document.specs.Sizes.{top}
 use Rattle.document.specs.State.{Kind, absent, sparse, dense, is_present, is_sparse, is_dense, State}
 use Rattle.document.specs.Union.{either, union_size, joined, union_map, same_shape, united}
 use Rattle.document.specs.declared.sizes.Sizes.{Sizes}
-use Rattle.document.specs.declared.answer.Outcome.TheVariants.{Done}
 use Rattle.layout.specs.Mem.{Mem}
 use Rattle.layout.specs.Sizes.{head}
 use Rattle.layout.specs.Entries.{place_of}
@@ -20,6 +18,7 @@ use Rattle.layout.specs.declared.place.Place.{Place}
 use Rattle.layout.specs.declared.place.Place.TheVariants.{Absent}
 use Rattle.unions.proofs.Results.{same_top, result_kept}
 use Rattle.unions.proofs.Partly.{Has, Alike}
+use Rattle.std.specs.Prelude.{Ok}
 
 abbrev pub halfway : State → State → State
 halfway q p = record {
@@ -32,7 +31,7 @@ halfway q p = record {
 -- ---- kinds: nothing that is there goes
 
 joined_present : (a b : Kind) (n m : ℕ) → is_present a ≡ true → is_present (joined a b n m) ≡ true
-joined_present absent b n m e = absurd (let z : ◌≡◌ {A = ℕ} 0 1 = cc in omega arith)
+joined_present absent b n m e = absurd cc
 joined_present sparse absent n m e = refl
 joined_present sparse sparse n m e = go (leb n m)
   where
@@ -43,36 +42,36 @@ joined_present sparse dense n m e = refl
 joined_present dense b n m e = refl
 
 joined_dense : (a b : Kind) (n m : ℕ) → is_dense a ≡ true → is_dense (joined a b n m) ≡ true
-joined_dense absent b n m e = absurd (let z : ◌≡◌ {A = ℕ} 0 1 = cc in omega arith)
-joined_dense sparse b n m e = absurd (let z : ◌≡◌ {A = ℕ} 0 1 = cc in omega arith)
+joined_dense absent b n m e = absurd cc
+joined_dense sparse b n m e = absurd cc
 joined_dense dense b n m e = refl
 
 joined_there : (a b : Kind) (n m : ℕ) → is_dense b ≡ true → is_dense (joined a b n m) ≡ true
 joined_there absent b n m e = e
 joined_there sparse absent n m e = e
-joined_there sparse sparse n m e = absurd (let z : ◌≡◌ {A = ℕ} 0 1 = cc in omega arith)
+joined_there sparse sparse n m e = absurd cc
 joined_there sparse dense n m e = refl
 joined_there dense b n m e = refl
 
 -- present, and not dense
 sparse_of : (k : Kind) → is_present k ≡ true → is_dense k ≡ false → is_sparse k ≡ true
-sparse_of absent p d = absurd (let z : ◌≡◌ {A = ℕ} 0 1 = cc in omega arith)
+sparse_of absent p d = absurd cc
 sparse_of sparse p d = refl
-sparse_of dense p d = absurd (let z : ◌≡◌ {A = ℕ} 0 1 = cc in omega arith)
+sparse_of dense p d = absurd cc
 
 sparse_present : (k : Kind) → is_sparse k ≡ true → is_present k ≡ true
-sparse_present absent e = absurd (let z : ◌≡◌ {A = ℕ} 0 1 = cc in omega arith)
+sparse_present absent e = absurd cc
 sparse_present sparse e = refl
-sparse_present dense e = absurd (let z : ◌≡◌ {A = ℕ} 0 1 = cc in omega arith)
+sparse_present dense e = absurd cc
 
 pub dense_present : (k : Kind) → is_dense k ≡ true → is_present k ≡ true
-dense_present absent e = absurd (let z : ◌≡◌ {A = ℕ} 0 1 = cc in omega arith)
-dense_present sparse e = absurd (let z : ◌≡◌ {A = ℕ} 0 1 = cc in omega arith)
+dense_present absent e = absurd cc
+dense_present sparse e = absurd cc
 dense_present dense e = refl
 
 pub dense_is : (k : Kind) → is_dense k ≡ true → dense ≡ k
-dense_is absent e = absurd (let z : ◌≡◌ {A = ℕ} 0 1 = cc in omega arith)
-dense_is sparse e = absurd (let z : ◌≡◌ {A = ℕ} 0 1 = cc in omega arith)
+dense_is absent e = absurd cc
+dense_is sparse e = absurd cc
 dense_is dense e = refl
 
 module _ (q p : State) (c : ℕ) where
@@ -111,14 +110,14 @@ module _ (q p : State) (c : ℕ) where
   half_clear e = go (is_dense after) refl e
     where
       go : (b : Bool) → is_dense after ≡ b → is_dense (cond b dense (q.map c)) ≡ false → is_dense after ≡ false
-      go true d e = absurd (let z : ◌≡◌ {A = ℕ} 0 1 = cc in omega arith)
+      go true d e = absurd cc
       go false d e = d
 
   pub half_sparse : is_sparse ((halfway q p).map c) ≡ true → is_sparse (union_map q p c) ≡ true
   half_sparse e = go (is_dense after) refl e
     where
       go : (b : Bool) → is_dense after ≡ b → is_sparse (cond b dense (q.map c)) ≡ true → is_sparse after ≡ true
-      go true d e = absurd (let z : ◌≡◌ {A = ℕ} 0 1 = cc in omega arith)
+      go true d e = absurd cc
       go false d e = sparse_of after (after_present (sparse_present (q.map c) e)) d
 
 -- ---- chunk i: as it was, halfway, in the union
@@ -145,7 +144,7 @@ module _ (x y : Mem) (i : ℕ) where
   }
 
   -- one that becomes dense
-  pub half_all : is_dense (union_map (state_of x) (state_of y) i) ≡ true → Alike (head x) i (halfway (state_of x) (state_of y)) (united (state_of x) (state_of y) Done)
+  pub half_all : is_dense (union_map (state_of x) (state_of y) i) ≡ true → Alike (head x) i (halfway (state_of x) (state_of y)) (united (state_of x) (state_of y) (Ok tt))
   half_all d = record {
     kind = ap (λ (b : Bool). cond b dense (kinds x i)) d ∙ dense_is to_be d;
     members = λ n e. ap (λ (b : Bool). cond b (either (holds x) (holds y) n) (holds x n)) (test_at n e ∙ d);
@@ -182,7 +181,7 @@ module _ (x y : Mem) (i : ℕ) where
       members = λ n e. sym (same_if n e (is_dense (union_map q p (n / top (head x)))));
     }
 
-    pub all_none : Alike (head x) i (halfway (state_of x) (state_of y)) (united (state_of x) (state_of y) Done)
+    pub all_none : Alike (head x) i (halfway (state_of x) (state_of y)) (united (state_of x) (state_of y) (Ok tt))
     all_none = record {
       kind = same_kind (is_dense to_be) refl ∙ sym (result_kept x y i none);
       members = λ n e. same_if n e (is_dense (union_map q p (n / top (head x)))) ∙ sym (either_none n e);

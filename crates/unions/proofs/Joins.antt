@@ -16,8 +16,6 @@ use Rattle.document.specs.State.{Kind, is_present}
 use Rattle.document.specs.Refusals.{not_laid_out, is_ranked, sizes_differ}
 use Rattle.document.specs.Union.{Join, merge_from, merge, same_shape}
 use Rattle.document.specs.declared.sizes.Sizes.{Sizes}
-use Rattle.document.specs.declared.answer.Outcome.{Outcome}
-use Rattle.document.specs.declared.answer.Outcome.TheVariants.{Done, Refused}
 use Rattle.layout.specs.Mem.{Mem, mem}
 use Rattle.layout.specs.Sizes.{head}
 use Rattle.layout.specs.Places.{decoded}
@@ -37,17 +35,16 @@ use Rattle.unions.specs.Union.{standing, is_placed, new_entry, over_after, judge
 use Rattle.unions.specs.Joinable.{Joinable}
 use Rattle.unions.proofs.Counts.{count_more, by_chunks}
 use Rattle.unions.proofs.Judged.{judged_room}
+use Rattle.document.specs.Results.{Outcome}
+use Rattle.std.specs.Prelude.{Err, Ok}
 
 -- ---- an accepted plan
 
-not_refused : (n : ℕ) → Refused n ≡ Done → ⊥
-not_refused n e = let z : ◌≡◌ {A = ℕ} 0 1 = cc in omega arith
-
-gate : (a b c : Bool) (j : Outcome) → cond a (cond b (Refused is_ranked) (cond c j (Refused sizes_differ))) (Refused not_laid_out) ≡ Done
-    → (a ≡ true) × (b ≡ false) × (c ≡ true) × (j ≡ Done)
-gate false b c j e = absurd (not_refused not_laid_out e)
-gate true true c j e = absurd (not_refused is_ranked e)
-gate true false false j e = absurd (not_refused sizes_differ e)
+gate : (a b c : Bool) (j : Outcome) → cond a (cond b (Err is_ranked) (cond c j (Err sizes_differ))) (Err not_laid_out) ≡ Ok tt
+    → (a ≡ true) × (b ≡ false) × (c ≡ true) × (j ≡ Ok tt)
+gate false b c j e = absurd cc
+gate true true c j e = absurd cc
+gate true false false j e = absurd cc
 gate true false true j e = (refl, refl, refl, e)
 
 open_here : (x y : Mem) (j : Join) → barred_by x y j ≡ false → ranked x ≡ false
@@ -58,7 +55,7 @@ open_here x y merge e = go (ranked x) (ranked y) e
     go true b e = e
     go false b e = refl
 
-pub plan_joins : (x y : Mem) (j : Join) → union_plan x y j ≡ Done → Joinable x y
+pub plan_joins : (x y : Mem) (j : Join) → union_plan x y j ≡ Ok tt → Joinable x y
 unfolding union_plan
 plan_joins x y j e =
     let g = gate (walked x && walked y) (barred_by x y j) (same_shape (head x) (head y)) (judged x y) e in
@@ -124,7 +121,7 @@ count_less_by P Q c n l p q f =
 
 or_left : (p a b : Bool) → (p && a) ≡ true → (p && (a || b)) ≡ true
 or_left true true b e = refl
-or_left true false b e = absurd (let z : ◌≡◌ {A = ℕ} 0 1 = cc in omega arith)
+or_left true false b e = absurd cc
 or_left false a b e = e
 
 or_right : (p a b : Bool) → p ≡ true → b ≡ true → (p && (a || b)) ≡ true

@@ -7,7 +7,6 @@ use Rattle.document.specs.Sizes.{top}
 use Rattle.document.specs.State.{State}
 use Rattle.document.specs.Room.{overflows, sparses, denses}
 use Rattle.document.specs.Union.{union_map, same_shape, united}
-use Rattle.document.specs.declared.answer.Outcome.TheVariants.{Done}
 use Rattle.layout.specs.Mem.{Mem}
 use Rattle.layout.specs.Sizes.{head}
 use Rattle.layout.specs.Meaning.{ranked, state_of}
@@ -15,6 +14,7 @@ use Rattle.layout.specs.Follows.{Follows}
 use Rattle.unions.specs.Union.{united_by}
 use Rattle.unions.proofs.Partly.{Has}
 use Rattle.unions.proofs.Passes.{all_there, is_united}
+use Rattle.std.specs.Prelude.{Ok}
 
 -- a set is its sizes, its mode and its chunks
 has_state : (z : Mem) (q : State) → head z ≡ q.sizes → ranked z ≡ q.mode → ((i : ℕ) → Has z i q) → state_of z ≡ q
@@ -24,9 +24,9 @@ pub union_kept : {x y : Mem} → Follows x → Follows y → ranked x ≡ false 
     → overflows (head x) (union_map (state_of x) (state_of y)) ≤ (head x).v
     → sparses (head x) (union_map (state_of x) (state_of y)) ≤ (head x).r
     → denses (head x) (union_map (state_of x) (state_of y)) ≤ (head x).p
-    → Follows (united_by x y) × (state_of (united_by x y) ≡ united (state_of x) (state_of y) Done)
+    → Follows (united_by x y) × (state_of (united_by x y) ≡ united (state_of x) (state_of y) (Ok tt))
 union_kept {x} {y} w v mode same over rows pages =
     let z = all_there w mode v same over rows pages in (
       z.follows,
-      has_state (united_by x y) (united (state_of x) (state_of y) Done) z.sizes (ap (λ (m : ℕ). eqb m 1) z.mode) (is_united w mode v same over rows pages),
+      has_state (united_by x y) (united (state_of x) (state_of y) (Ok tt)) z.sizes (ap (λ (m : ℕ). eqb m 1) z.mode) (is_united w mode v same over rows pages),
     )

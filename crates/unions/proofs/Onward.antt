@@ -161,7 +161,7 @@ module _ {x y : Mem} (J : Joinable x y) (e : ℕ) (l : e < source_entries y) whe
 
   -- a chunk whose result is dense is one that the source has
   dense_has : (o q : Place) → union_dense x y o q ≡ true → is_present (kind_of q) ≡ true
-  dense_has o Absent d = absurd (let z : ◌≡◌ {A = ℕ} 0 1 = cc in omega arith)
+  dense_has o Absent d = absurd cc
   dense_has o (Sparse i k) d = refl
   dense_has o (Dense p) d = refl
 

@@ -8,7 +8,6 @@ use Rattle.document.specs.State.{State}
 use Rattle.document.specs.Room.{overflows, sparses, denses}
 use Rattle.document.specs.Union.{union_map, same_shape, united}
 use Rattle.document.specs.declared.sizes.Sizes.{Sizes}
-use Rattle.document.specs.declared.answer.Outcome.TheVariants.{Done}
 use Rattle.layout.specs.Mem.{Mem}
 use Rattle.layout.specs.Sizes.{head}
 use Rattle.layout.specs.Entries.{place_of}
@@ -21,6 +20,7 @@ use Rattle.unions.proofs.Partly.{Has, Alike, Partly, partly_none, partly_all}
 use Rattle.unions.proofs.Halfway.{halfway, half_none, all_none}
 use Rattle.unions.proofs.FirstPass.{first_pass}
 use Rattle.unions.proofs.SecondPass.{second_pass}
+use Rattle.std.specs.Prelude.{Ok}
 
 module _ {x y : Mem} (w : Follows x) (mode : ranked x ≡ false) (v : Follows y) (same : same_shape (head x) (head y) ≡ true)
     (over : overflows (head x) (union_map (state_of x) (state_of y)) ≤ (head x).v) (rows : sparses (head x) (union_map (state_of x) (state_of y)) ≤ (head x).r)
@@ -29,7 +29,7 @@ module _ {x y : Mem} (w : Follows x) (mode : ranked x ≡ false) (v : Follows y)
   half = halfway (state_of x) (state_of y)
 
   abbrev whole : State
-  whole = united (state_of x) (state_of y) Done
+  whole = united (state_of x) (state_of y) (Ok tt)
 
   -- a chunk without an entry of the source
   lacks : (i : ℕ) → ((j : ℕ) → j < source_entries y → source_chunk y j ≢ i) → place_of (head y) y.table i ≡ Absent
@@ -48,16 +48,16 @@ module _ {x y : Mem} (w : Follows x) (mode : ranked x ≡ false) (v : Follows y)
       partly_all made_dense
       (λ i none. subst (λ (h : Sizes). Alike h i (state_of x) half) (sym made_dense.sizes) (half_none x y i same (lacks i none)))
 
-  pub halfway_there : Partly x y (halfway (state_of x) (state_of y)) (united (state_of x) (state_of y) Done) 0 (dense_to x y (source_entries y))
+  pub halfway_there : Partly x y (halfway (state_of x) (state_of y)) (united (state_of x) (state_of y) (Ok tt)) 0 (dense_to x y (source_entries y))
   halfway_there = partly_none made_dense.follows made_dense.sizes made_dense.mode is_half
 
   -- ---- at the end
 
-  pub all_there : Partly x y (halfway (state_of x) (state_of y)) (united (state_of x) (state_of y) Done) (source_entries y) (united_by x y)
+  pub all_there : Partly x y (halfway (state_of x) (state_of y)) (united (state_of x) (state_of y) (Ok tt)) (source_entries y) (united_by x y)
   unfolding united_by
   all_there = second_pass x mode v same over rows mid halfway_there (source_entries y) (omega arith)
 
-  pub is_united : (i : ℕ) → Has (united_by x y) i (united (state_of x) (state_of y) Done)
+  pub is_united : (i : ℕ) → Has (united_by x y) i (united (state_of x) (state_of y) (Ok tt))
   is_united =
       partly_all all_there
       (λ i none. subst (λ (h : Sizes). Alike h i half whole) (sym all_there.sizes) (all_none x y i same (lacks i none)))

@@ -150,7 +150,7 @@ module _ {x y : Mem} (w : Follows x) (v : Follows y) (same : same_shape (head x)
 
   kind_by : (o q : Place) → here ≡ o → there ≡ q → is_placed q ≡ true
       → joined (kind_of o) (kind_of q) (union_size (state_of x) (state_of y) c) (head x).m ≡ cond (union_dense x y o q) dense sparse
-  kind_by o Absent a b p = absurd (let z : ◌≡◌ {A = ℕ} 0 1 = cc in omega arith)
+  kind_by o Absent a b p = absurd cc
   kind_by Absent (Sparse i k) a b p = refl
   kind_by (Sparse r l) (Sparse i k) a b p =
       ap (λ (n : ℕ). cond (leb n (head x).m) sparse dense) (rows_size w v same c r l i k a b) ∙ sparse_up_to (length (rows_union x y r l i k)) (head x).m

@@ -12,7 +12,6 @@ use Rattle.document.specs.State.{Kind, sparse, dense, State, is_present, is_spar
 use Rattle.document.specs.Room.{overflows, sparses}
 use Rattle.document.specs.Union.{either, union_map, same_shape, united}
 use Rattle.document.specs.declared.sizes.Sizes.{Sizes}
-use Rattle.document.specs.declared.answer.Outcome.TheVariants.{Done}
 use Rattle.layout.specs.Mem.{Mem}
 use Rattle.layout.specs.Sizes.{head}
 use Rattle.layout.specs.Entries.{place_of}
@@ -34,6 +33,7 @@ use Rattle.unions.proofs.Partly.{Has, Alike, alike_back, has_alike, Goes, goes_n
 use Rattle.unions.proofs.Halfway.{halfway, after_there, half_present, half_dense, half_clear, half_sparse}
 use Rattle.unions.proofs.Halfway.{half_not, half_all, all_none, map_still, members_still}
 use Rattle.unions.proofs.FirstPass.{far_still, shape_still, open_still, kind_at}
+use Rattle.std.specs.Prelude.{Ok}
 
 module _ (x : Mem) {y : Mem} (mode : ranked x ≡ false) (v : Follows y) (same : same_shape (head x) (head y) ≡ true)
     (over : overflows (head x) (union_map (state_of x) (state_of y)) ≤ (head x).v) (rows : sparses (head x) (union_map (state_of x) (state_of y)) ≤ (head x).r) where
@@ -44,7 +44,7 @@ module _ (x : Mem) {y : Mem} (mode : ranked x ≡ false) (v : Follows y) (same :
   half = halfway (state_of x) (state_of y)
 
   abbrev whole : State
-  whole = united (state_of x) (state_of y) Done
+  whole = united (state_of x) (state_of y) (Ok tt)
 
   -- ---- a turn
 
@@ -99,7 +99,7 @@ module _ (x : Mem) {y : Mem} (mode : ranked x ≡ false) (v : Follows y) (same :
       stays_sparse = go (union_dense z y o (Sparse i k)) result
         where
           go : (b : Bool) → cond b dense sparse ≡ map c → b ≡ false
-          go true g = absurd (let d = ap state.is_dense g ∙ not_dense in let z : ◌≡◌ {A = ℕ} 0 1 = cc in omega arith)
+          go true g = absurd (let d = ap state.is_dense g ∙ not_dense in cc)
           go false g = refl
 
       sparse_is : sparse ≡ map c
@@ -159,14 +159,14 @@ module _ (x : Mem) {y : Mem} (mode : ranked x ≡ false) (v : Follows y) (same :
     by_places (Dense p) (Sparse i k) at from =
         stays (half_all x y c (half_dense (state_of x) (state_of y) c (ap state.is_dense (sym has.kind ∙ kind_at z c (Dense p) at))))
 
-    pub second_turn : Goes sparse z (sparsely z y (source_chunk y e) (standing z (source_chunk y e)) (source y e)) (source_chunk y e) (united (state_of x) (state_of y) Done)
+    pub second_turn : Goes sparse z (sparsely z y (source_chunk y e) (standing z (source_chunk y e)) (source y e)) (source_chunk y e) (united (state_of x) (state_of y) (Ok tt))
     second_turn =
         by_places (standing z c) (source y e) (sym (standing_is (laid_walked f) c)) (sym (source_of (laid_walked v) e l))
 
   -- ---- all of them, after a first pass
 
   module _ (mid : Mem) (first : Partly x y half whole 0 mid) where
-    pub second_pass : (e : ℕ) → e ≤ source_entries y → Partly x y (halfway (state_of x) (state_of y)) (united (state_of x) (state_of y) Done) e (sparse_to mid y e)
+    pub second_pass : (e : ℕ) → e ≤ source_entries y → Partly x y (halfway (state_of x) (state_of y)) (united (state_of x) (state_of y) (Ok tt)) e (sparse_to mid y e)
     unfolding sparse_to
     second_pass zero l = first
     second_pass (suc e) l = go (sparse_to mid y e) (second_pass e (omega arith))

@@ -17,8 +17,6 @@ use Rattle.dense.proofs.Bits.{length_row}
 use Rattle.document.specs.Sizes.{top}
 use Rattle.document.specs.Union.{Join, merge_from, merge, same_shape}
 use Rattle.document.specs.declared.sizes.Sizes.{Sizes}
-use Rattle.document.specs.declared.answer.Outcome.{Outcome}
-use Rattle.document.specs.declared.answer.Outcome.TheVariants.{Done, Refused}
 use Rattle.layout.specs.Mem.{Mem}
 use Rattle.layout.specs.Sizes.{wide, head}
 use Rattle.layout.specs.Places.{decoded, encoded, row_part, page_part}
@@ -29,8 +27,6 @@ use Rattle.layout.specs.Tests.{Walked}
 use Rattle.layout.specs.Writes.{put_page}
 use Rattle.layout.specs.declared.place.Place.{Place}
 use Rattle.layout.specs.declared.place.Place.TheVariants.{Absent, Sparse, Dense}
-use Rattle.layout.specs.declared.find.Word.{Word}
-use Rattle.layout.specs.declared.find.Word.TheVariants.{Is, Bad}
 use Rattle.layout_laws.proofs.Sizes.{row_length, page_length}
 use Rattle.layout_laws.proofs.Spares.{row_slot, page_slot, slot_beyond, spare_same, fresh_spare}
 use Rattle.steps.specs.Steps.{rowed, paged}
@@ -47,6 +43,9 @@ use Rattle.unions.proofs.Accepted.{accepted}
 use Rattle.unions.proofs.DenseTurns.{length_source}
 use Rattle.unions.proofs.FirstPass.{dense_placed}
 use Rattle.unions.proofs.Entered.{rowed_wrote, Sound, sound_start, sound_pages, entry_left, entry_room, sound_wrote}
+use Rattle.document.specs.Results.{Outcome}
+use Rattle.layout.specs.Found.{Word}
+use Rattle.std.specs.Prelude.{Err, Ok}
 
 -- ---- places as union reads them are the sizes'
 
@@ -62,8 +61,8 @@ unfolding standing
 standing_fits z c = go (word_in z.table c)
   where
     go : (w : Word) → fits (head z) (named (head z) w) ≡ true
-    go (Is w) = fitted_fits (head z) (decoded w)
-    go Bad = refl
+    go (Ok w) = fitted_fits (head z) (decoded w)
+    go (Err n) = refl
 
 source_fits : (y : Mem) (e : ℕ) → fits (head y) (source y e) ≡ true
 unfolding source
@@ -189,8 +188,8 @@ module _ (x y : Mem) (j : Join) where
   union_here_spare = go (union_plan x y j) refl
     where
       go : (a : Outcome) → union_plan x y j ≡ a → Spare (head x) x (met_if x y j a).here
-      go Done e = let f = accepted x y j e in united_spare f.walks f.source_walks f.same (judged_room x y f.room).0
-      go (Refused n) e = spare_same
+      go (Ok tt) e = let f = accepted x y j e in united_spare f.walks f.source_walks f.same (judged_room x y f.room).0
+      go (Err n) e = spare_same
 
   -- the source, which `merge` sets up anew
   pub union_there_spare : Spare (head y) y (union_by x y j).there
@@ -202,5 +201,5 @@ module _ (x y : Mem) (j : Join) where
       left v merge = fresh_spare (head y) y v.room
 
       go : (a : Outcome) → union_plan x y j ≡ a → Spare (head y) y (met_if x y j a).there
-      go Done e = left (accepted x y j e).source_walks j
-      go (Refused n) e = spare_same
+      go (Ok tt) e = left (accepted x y j e).source_walks j
+      go (Err n) e = spare_same

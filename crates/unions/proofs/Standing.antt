@@ -4,7 +4,6 @@ use mathlib.Core.Logic.{◌≢◌}
 use mathlib.Core.List.{List}
 use mathlib.Core.Bool.{Bool, true, cond, ◌&&◌}
 use Prim.Native.Nat.{ℕ, ◌<◌}
-use native.Mathlib.Omega.{arith}
 use borrow.Author.Tests.{lt-ltb, le-leb}
 use Rattle.sparse.specs.Row.{Rising}
 use Rattle.document.specs.Sizes.{last_chunk}
@@ -33,7 +32,7 @@ fitted_owned : (h : Sizes) (t : List ℕ) (c : ℕ) (q : Place) → Owned h t c 
 fitted_owned h t c q u = ap (λ (b : Bool). cond b q Absent) (fits_owned h t c q u)
 
 placed_not : (q : Place) → q ≡ Absent → is_placed q ≢ true
-placed_not q e p = let z : ◌≡◌ {A = ℕ} 0 1 = cc (ap is_placed e) in omega arith
+placed_not q e p = cc (ap is_placed e)
 
 module _ {x : Mem} (w : Walked x (head x)) where
   pub standing_is : (c : ℕ) → standing x c ≡ place_of (head x) x.table c

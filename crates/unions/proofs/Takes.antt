@@ -14,7 +14,6 @@ use Rattle.document.specs.Sizes.{last_chunk}
 use Rattle.document.specs.State.{Kind, sparse, dense, State}
 use Rattle.document.specs.Room.{overflows, sparses, denses}
 use Rattle.document.specs.Union.{union_map, same_shape, united}
-use Rattle.document.specs.declared.answer.Outcome.TheVariants.{Done}
 use Rattle.layout.specs.Mem.{Mem}
 use Rattle.layout.specs.Sizes.{head}
 use Rattle.layout.specs.Meaning.{kinds, ranked, state_of}
@@ -33,6 +32,7 @@ use Rattle.unions.proofs.Halfway.{halfway}
 use Rattle.unions.proofs.FirstPass.{first_turn, first_pass}
 use Rattle.unions.proofs.SecondPass.{second_turn, second_pass}
 use Rattle.unions.proofs.Passes.{halfway_there}
+use Rattle.std.specs.Prelude.{Ok}
 
 -- ---- turns at rising keys are turns of all ids below N
 
@@ -99,7 +99,7 @@ moved (inr e) d = e
 
 stayed : {p q : Place} {a : Kind} → (p ≡ q) ⊎ (a ≡ sparse) → a ≡ dense → p ≡ q
 stayed (inl e) d = e
-stayed (inr e) d = absurd (let z : ◌≡◌ {A = ℕ} 0 1 = cc in omega arith)
+stayed (inr e) d = absurd cc
 
 -- ---- union
 
@@ -113,7 +113,7 @@ module _ {x y : Mem} (w : Follows x) (v : Follows y) (mode : ranked x ≡ false)
   unfolding dense_to
   first_goes e l = first_turn w mode v same over pages e l (dense_to x y e) (first_pass w mode v same over pages e (omega arith))
 
-  second_goes : (e : ℕ) (l : e < source_entries y) → Goes sparse (sparse_to mid y e) (sparse_to mid y (suc e)) (source_chunk y e) (united (state_of x) (state_of y) Done)
+  second_goes : (e : ℕ) (l : e < source_entries y) → Goes sparse (sparse_to mid y e) (sparse_to mid y (suc e)) (source_chunk y e) (united (state_of x) (state_of y) (Ok tt))
   unfolding sparse_to
   second_goes e l =
       second_turn x mode v same over rows e l (sparse_to mid y e)
@@ -141,7 +141,7 @@ module _ {x y : Mem} (w : Follows x) (v : Follows y) (mode : ranked x ≡ false)
   second_lands : (c : ℕ) → (place_in (united_by x y) c ≡ place_in mid c) ⊎ (kinds (united_by x y) c ≡ sparse)
   unfolding sparse_to united_by
   second_lands =
-      lands_all sparse (united (state_of x) (state_of y) Done) (source_chunk y) (source_entries y) (sparse_to mid y) second_goes (source_entries y) (omega arith)
+      lands_all sparse (united (state_of x) (state_of y) (Ok tt)) (source_chunk y) (source_entries y) (sparse_to mid y) second_goes (source_entries y) (omega arith)
 
   pub union_takes : TakesDenseFirst x (united_by x y)
   union_takes = record {

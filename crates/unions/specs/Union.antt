@@ -1,5 +1,5 @@
 -- Union on any two memories: judged before anything is written, then chunks whose result is dense, then rows. The destination is x, the source y.
-use Rattle.std.specs.Prelude.{ℕ, zero, suc, ◌+◌, ◌-◌, List, Bool, true, false, cond, not, ◌&&◌, ◌||◌, length, take, leb, ltb, eqb}
+use Rattle.std.specs.Prelude.{ℕ, zero, suc, ◌+◌, ◌-◌, List, Bool, true, false, cond, not, ◌&&◌, ◌||◌, length, take, leb, ltb, eqb, Ok, Err}
 use Rattle.sums.specs.Ids.{count}
 use Rattle.sparse.specs.Edit.{copied}
 use Rattle.sparse.specs.Union as sparse
@@ -8,8 +8,6 @@ use Rattle.document.specs.Sizes.{top}
 use Rattle.document.specs.Refusals.{not_laid_out, is_ranked, sizes_differ, overflow_full, rows_full, pages_full}
 use Rattle.document.specs.Union.{Join, merge_from, merge, same_shape}
 use Rattle.document.specs.declared.sizes.Sizes.{Sizes}
-use Rattle.document.specs.declared.answer.Outcome.{Outcome}
-use Rattle.document.specs.declared.answer.Outcome.TheVariants.{Done, Refused}
 use Rattle.layout.specs.Mem.{Mem, mem}
 use Rattle.layout.specs.Sizes.{head, mode_at, over_count}
 use Rattle.layout.specs.Places.{decoded, has_row, has_page, row_part, page_part}
@@ -20,11 +18,11 @@ use Rattle.layout.specs.Tests.{rows_owned, pages_owned, walked}
 use Rattle.layout.specs.Writes.{put_page}
 use Rattle.layout.specs.declared.place.Place.{Place}
 use Rattle.layout.specs.declared.place.Place.TheVariants.{Absent, Sparse, Dense}
-use Rattle.layout.specs.declared.find.Word.{Word}
-use Rattle.layout.specs.declared.find.Word.TheVariants.{Is, Bad}
 use Rattle.steps.specs.Steps.{rowed}
 use Rattle.calls.specs.Insert.{free_row, free_page}
 use Rattle.calls.specs.Prepare.{into_page}
+use Rattle.document.specs.Results.{Outcome}
+use Rattle.layout.specs.Found.{Word}
 
 -- ---- where a chunk stands
 
@@ -38,8 +36,8 @@ abbrev pub fitted : Sizes → Place → Place
 fitted h q = cond (fits h q) q Absent
 
 abbrev pub named : Sizes → Word → Place
-named h (Is w) = fitted h (decoded w)
-named h Bad = Absent
+named h (Ok w) = fitted h (decoded w)
+named h (Err n) = Absent
 
 -- chunk c of the destination; entry e of the source and its chunk
 unfoldable pub standing : Mem → ℕ → Place
@@ -95,9 +93,9 @@ pages_after x y = pages_owned (head x) x.table + count (new_page x y) (source_en
 -- 6, 7, 8
 unfoldable pub judged : Mem → Mem → Outcome
 judged x y =
-    cond (ltb (head x).v (over_after x y)) (Refused overflow_full)
-    (cond (ltb (head x).r (rows_after x y)) (Refused rows_full)
-    (cond (ltb (head x).p (pages_after x y)) (Refused pages_full) Done))
+    cond (ltb (head x).v (over_after x y)) (Err overflow_full)
+    (cond (ltb (head x).r (rows_after x y)) (Err rows_full)
+    (cond (ltb (head x).p (pages_after x y)) (Err pages_full) (Ok tt)))
 
 -- ---- first pass: chunks whose result is dense
 
@@ -180,15 +178,15 @@ left_by y merge_from = y
 left_by y merge = fresh (head y) y
 
 abbrev pub met_if : Mem → Mem → Join → Outcome → Met
-met_if x y j Done = met Done (united_by x y) (left_by y j)
-met_if x y j (Refused n) = met (Refused n) x y
+met_if x y j (Ok tt) = met (Ok tt) (united_by x y) (left_by y j)
+met_if x y j (Err n) = met (Err n) x y
 
 -- 3 by the destination's walk, then by the source's, 4, 10, then 6, 7, 8
 unfoldable pub union_plan : Mem → Mem → Join → Outcome
 union_plan x y j =
     cond (walked x && walked y)
-    (cond (barred_by x y j) (Refused is_ranked) (cond (same_shape (head x) (head y)) (judged x y) (Refused sizes_differ)))
-    (Refused not_laid_out)
+    (cond (barred_by x y j) (Err is_ranked) (cond (same_shape (head x) (head y)) (judged x y) (Err sizes_differ)))
+    (Err not_laid_out)
 
 unfoldable pub union_by : Mem → Mem → Join → Met
 union_by x y j = met_if x y j (union_plan x y j)

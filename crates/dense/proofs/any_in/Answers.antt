@@ -1,41 +1,40 @@
-use mathlib.Core.Path.{◌≡◌, ap, ◌∙◌}
-use Prim.Native.Nat.{ℕ, ◌*◌, ◌/◌}
+use mathlib.Core.Bool.{not}
 use native.Mathlib.Omega.{arith}
-use Rattle.dense.specs.Bits.{bits_to}
-use Rattle.dense.proofs.Scans.{any_empty, any_one, any_first, any_word, any_last, first_passed, word_passed}
+use lib.Dec.{eqb}
+use Rattle.std.proofs.Common.{rules, tests}
+use Rattle.std.proofs.lemmas.Bool.Decides.{nat_tests}
+use Rattle.std.proofs.lemmas.Iterator.{YieldsList-from_slice}
+use Rattle.std.proofs.lemmas.Iterator.Search.{any_from_yields_List}
+use Rattle.dense.proofs.Scans.{between, any_empty, any_one, any_parts}
 use Rattle.dense.proofs.any_in.Goals as goal
+use Rattle.dense.proofs.any_in.Goals.{then-above-ne0, else-above-ne0}
 
 pub returns-then-hi-lo : goal.returns-then-hi-lo
 returns-then-hi-lo c = any_empty c.args.words.now c.args.lo c.args.hi c.if-hi-lo.true
 
 pub returns-then-first-last : goal.returns-then-first-last
-returns-then-first-last c = let a = c.args in
+returns-then-first-last c =
+    let a = c.args in
     any_one a.words.now a.lo a.hi c.if-hi-lo.false c.if-first-last.true
 
-pub returns-then-above-ne0 : goal.returns-then-above-ne0
-returns-then-above-ne0 c =
+pub returns-then-any : goal.returns-then-any
+returns-then-any c =
     let a = c.args in
-    any_first a.words.now a.lo a.hi (omega arith) (c.shared_slice_known-1.given (a.lo / 64)).fits c.if-above-ne0.true
+    let e = any_parts a.words.now a.lo a.hi (omega arith) c.requires (λ i. (c.type_inv.words i).fits) in
+    elim c.if-above-ne0.branch [
+      | then-above-ne0 w ↦ grind (arith, nat_tests)
+      | else-above-ne0 w ↦
+          let f = any_from_yields_List (λ w. not (eqb w 0)) _ _ w.any.result w.any.ensures.ran (YieldsList-from_slice (between a.words.now a.lo a.hi) (cc)) (λ x b q k. search (rules, tests)) in
+          grind (arith, nat_tests)
+    ]
 
-pub loop-i-init : goal.loop-i-init
-loop-i-init c =
+pub returns-else-any : goal.returns-else-any
+returns-else-any c =
     let a = c.args in
-    (omega arith, omega arith, first_passed a.words.now a.lo (c.shared_slice_known-1.given (a.lo / 64)).fits c.if-above-ne0.false)
-
-pub returns-then-words-i-ne0 : goal.returns-then-words-i-ne0
-returns-then-words-i-ne0 c =
-    let a = c.args in
-    let l = c.loop-i in
-    any_word a.words.now l.i a.lo a.hi c.loop-i-test.true (c.shared_slice_known-in-loop-i-1.given l.i).fits c.if-words-i-ne0.true l.invariant.2
-
-pub loop-i-preserved : goal.loop-i-preserved
-loop-i-preserved c =
-    let a = c.args in
-    let l = c.loop-i in
-    (omega arith, omega arith, word_passed a.words.now l.i a.lo c.if-words-i-ne0.false l.invariant.2)
-
-pub returns : goal.returns
-returns c =
-    let a = c.args in
-    let l = c.loop-i in
-    any_last a.words.now a.lo a.hi (let e : a.hi / 64 ≡ l.i = omega arith in ap (λ (i : ℕ). bits_to a.words.now (64 * i)) e ∙ l.invariant.2)
+    let e = any_parts a.words.now a.lo a.hi (omega arith) c.requires (λ i. (c.type_inv.words i).fits) in
+    elim c.if-above-ne0.branch [
+      | then-above-ne0 w ↦ grind (arith, nat_tests)
+      | else-above-ne0 w ↦
+          let f = any_from_yields_List (λ w. not (eqb w 0)) _ _ w.any.result w.any.ensures.ran (YieldsList-from_slice (between a.words.now a.lo a.hi) (cc)) (λ x b q k. search (rules, tests)) in
+          grind (arith, nat_tests)
+    ]

@@ -1,17 +1,13 @@
--- The part that the word names lies inside. Assumes nothing.
-use mathlib.Core.Path.{sym, ap, subst, ◌∙◌}
+-- The part that the word names lies inside.
+use mathlib.Core.Path.{sym, subst}
 use lib.ListN.{length}
 use Rattle.layout.specs.Mem.{mem}
-use Rattle.ranks.specs.Rank.{below_at}
 use Rattle.rank_chunk.specs.Part.{HasBlock}
-use Rattle.rank_chunk.proofs.Belows.{below_same, has_block}
+use Rattle.rank_chunk.proofs.Belows.{has_block}
 use Rattle.rank_chunk.proofs.below.Goals as goal
 
 pub below_in-requires : goal.below_in-requires
 below_in-requires c =
-    subst (HasBlock (length ((mem c.args.pages.now c.args.rows.now c.args.blocks.now c.args.table.now)).pages) (length ((mem c.args.pages.now c.args.rows.now c.args.blocks.now c.args.table.now)).rows) c.args.o) (sym c.spot_of.ensures)
-    (has_block ((mem c.args.pages.now c.args.rows.now c.args.blocks.now c.args.table.now)) c.args.o c.args.s c.args.w c.requires.0 c.requires.1 c.requires.2 c.requires.3)
-
-pub returns : goal.returns
-returns c =
-    (c.below_in.ensures.0 ∙ below_same ((mem c.args.pages.now c.args.rows.now c.args.blocks.now c.args.table.now)) c.args.o c.spot_of.result ∙ ap (below_at ((mem c.args.pages.now c.args.rows.now c.args.blocks.now c.args.table.now)) c.args.o) c.spot_of.ensures, c.below_in.ensures.1)
+    let a = c.args in
+    let r = c.requires in
+    subst (HasBlock (length a.pages.now) (length a.rows.now) a.o) (sym c.spot_of.ensures) (has_block (mem a.pages.now a.rows.now a.blocks.now a.table.now) a.o a.s a.w r.0 r.1 r.2 r.3)

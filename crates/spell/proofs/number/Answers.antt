@@ -6,12 +6,6 @@ use Rattle.spell.proofs.Buffers.{spelt}
 use Rattle.spell.proofs.Numbers.{fewest_are, fewest_few}
 use Rattle.spell.proofs.number.Goals as goal
 
-pub text-requires : goal.text-requires
-text-requires c =
-    let d = c.decimal-k in
-    let few : d.result ≤ 20 = fewest_few d.result c.args.n d.ensures.len (omega arith) in
-    omega (arith, d.ensures.in_bounds)
-
 pub returns : goal.returns
 returns c =
     let d = c.decimal-k in

@@ -7,7 +7,7 @@ use Rattle.calls.specs.Counts.{used_at}
 use Rattle.counts.proofs.count.allocated_chunk_count.Given as goal
 
 abbrev pub invariant-loop-e : goal.invariant-loop-e
-invariant-loop-e l = (l.e ≤ l.n) × (l.sum ≡ count (used_at (mem l.pages l.rows l.blocks l.table)) l.e)
+invariant-loop-e l = (l.e ≤ l.n) × (l.chunks ≡ count (used_at (mem l.pages l.rows l.blocks l.table)) l.e)
 
 abbrev pub decreases-loop-e : goal.decreases-loop-e
 decreases-loop-e l = l.n - l.e

@@ -7,4 +7,4 @@ use Rattle.exports.proofs.partition.bp_ids.Goals as goal
 
 pub returns : goal.returns
 returns c =
-    let a = c.args in c.of_spanned.ensures ∙ ap spanned_code (c.ids.ensures ∙ ap (λ (p : Plan). ids_answer p a.bounds.now a.k) c.plan_of.ensures)
+    let a = c.args in c.from.ensures ∙ ap spanned_code (c.ids.ensures ∙ ap (λ (p : Plan). ids_answer p a.bounds.now a.k) c.plan_of.ensures)

@@ -7,4 +7,4 @@ use Rattle.exports.proofs.partition.bp_ranks.Goals as goal
 
 pub returns : goal.returns
 returns c =
-    let a = c.args in c.of_ranks.ensures ∙ ap ranks_code (c.ranks.ensures ∙ ap (λ (p : Plan). ranks_answer p a.k) c.plan_of.ensures)
+    let a = c.args in c.from.ensures ∙ ap ranks_code (c.ranks.ensures ∙ ap (λ (p : Plan). ranks_answer p a.k) c.plan_of.ensures)

@@ -1,5 +1,5 @@
 -- `sum` is what a set keeps of the bits of the blocks before `b`, and `ok` says that the counts up to `b` are such.
-use Prim.Native.Nat.{◌-◌, ◌*◌, ◌≤◌}
+use Prim.Native.Nat.{◌*◌, ◌≤◌}
 use mathlib.Core.Path.{◌≡◌}
 use Rattle.sums.specs.Rules.{all_to}
 use Rattle.fullcheck.specs.Check.{kept_if, block_is}
@@ -7,7 +7,8 @@ use Rattle.dense.specs.Bits.{bits_to}
 use Rattle.fullcheck.proofs.blocks.page_blocks.Given as goal
 
 abbrev pub invariant-loop-b : goal.invariant-loop-b
-invariant-loop-b l = (l.b ≤ l.n) × (l.sum ≤ 512 * l.b) × (l.sum ≡ kept_if l.ranked (bits_to l.page (512 * l.b))) × (l.ok ≡ all_to (block_is l.page l.blocks l.ranked l.a) l.b)
-
-abbrev pub decreases-loop-b : goal.decreases-loop-b
-decreases-loop-b l = l.n - l.b
+invariant-loop-b l = record {
+  small : l.sum ≤ 512 * l.b;
+  sum : l.sum ≡ kept_if l.ranked (bits_to l.page (512 * l.b));
+  ok : l.ok ≡ all_to (block_is l.page l.blocks l.ranked l.a) l.b;
+}

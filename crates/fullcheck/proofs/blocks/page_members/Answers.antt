@@ -7,8 +7,9 @@ use Rattle.fullcheck.proofs.blocks.page_members.Goals as goal
 
 pub overflow_add-result : goal.overflow_add-result
 overflow_add-result c =
-    let a = c.args in omega (arith, (let a = c.args in let p = c.requires in members_are a.page.now a.blocks.now a.a a.n p.4 _ _ _ p.2 c.wide.ensures c.at32.ensures c.block_if.ensures), bits_le a.page.now (512 * a.n), c.requires.3)
+    let a = c.args in
+    let p = c.requires in
+    omega (arith, members_are a.page.now a.blocks.now a.a a.n p.4 _ _ _ p.2 c.from.ensures c.at.ensures c.block_if.ensures, bits_le a.page.now (512 * a.n), p.3)
 
 pub returns : goal.returns
-returns c =
-    (let a = c.args in let p = c.requires in members_are a.page.now a.blocks.now a.a a.n p.4 _ _ _ p.2 c.wide.ensures c.at32.ensures c.block_if.ensures)
+returns c = let a = c.args in let p = c.requires in members_are a.page.now a.blocks.now a.a a.n p.4 _ _ _ p.2 c.from.ensures c.at.ensures c.block_if.ensures

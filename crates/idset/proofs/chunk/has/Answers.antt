@@ -1,23 +1,14 @@
--- A table that is too short says nothing; else the word says the part. Assumes nothing.
-use mathlib.Core.Path.{subst, sym, ap, ◌∙◌}
+-- The part that the word names is as wide as the sizes say. Assumes nothing.
+use mathlib.Core.Path.{subst, sym}
 use lib.ListN.{length}
 use Rattle.layout.specs.Mem.{mem}
 use Rattle.layout.specs.Part.{Within}
-use Rattle.layout.specs.declared.find.Word.{Word}
-use Rattle.calls.specs.Reading.{spot_if, has_at}
 use Rattle.calls.proofs.Spots.{within_spot}
 use Rattle.idset.proofs.chunk.has.Goals as goal
 
-pub returns-in_default : goal.returns-in_default
-returns-in_default c =
-    ap (λ (v : Word). has_at ((mem c.args.pages.now c.args.rows.now c.args.blocks.now c.args.table.now)) c.args.o (spot_if ((mem c.args.pages.now c.args.rows.now c.args.blocks.now c.args.table.now)) v)) (sym c.in_default.is ∙ c.word.ensures)
-
 pub has-requires : goal.has-requires
 has-requires c =
-    subst (Within (length ((mem c.args.pages.now c.args.rows.now c.args.blocks.now c.args.table.now)).pages) (length ((mem c.args.pages.now c.args.rows.now c.args.blocks.now c.args.table.now)).rows) c.args.o) (sym c.spot_of.ensures)
-    (within_spot ((mem c.args.pages.now c.args.rows.now c.args.blocks.now c.args.table.now)) c.args.s _ c.args.o c.requires.0 c.requires.1 c.requires.2 c.requires.4)
-
-pub returns : goal.returns
-returns c =
-    let w = sym c.in-Is.is ∙ c.word.ensures in
-    c.has.ensures ∙ ap (has_at ((mem c.args.pages.now c.args.rows.now c.args.blocks.now c.args.table.now)) c.args.o) (c.spot_of.ensures ∙ ap (spot_if ((mem c.args.pages.now c.args.rows.now c.args.blocks.now c.args.table.now))) w)
+    let a = c.args in
+    let r = c.requires in
+    subst (Within (length a.pages.now) (length a.rows.now) _) (sym c.spot_of.ensures)
+    (within_spot (mem a.pages.now a.rows.now a.blocks.now a.table.now) a.s _ _ r.0 r.1 r.2 r.4)

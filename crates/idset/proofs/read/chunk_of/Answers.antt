@@ -1,25 +1,16 @@
 -- A size that is not allowed is refused; then a quotient. Assumes nothing.
-use mathlib.Core.Path.{sym, ◌∙◌}
-use Rattle.numbers.specs.Ids.{chunk_of}
-use Rattle.numbers.proofs.Signs.{hop}
+use Rattle.std.proofs.lemmas.Result.{err_from_is_err_and}
 use Rattle.layout.specs.Mem.{mem}
-use Rattle.calls.proofs.Shifts.{shift, shift_64, shift_no, shift_yes}
-use Rattle.idset.proofs.Gets.{chunk_bad, chunk_natural}
-use Rattle.idset.proofs.Promises.{chunk_id}
-use Rattle.std.proofs.lemmas.Bool.{not_from_false, not_from_true}
+use Rattle.idset.proofs.Gets.{chunk_refused, chunk_at}
 use Rattle.idset.proofs.read.chunk_of.Goals as goal
 
-pub returns-then-not-s : goal.returns-then-not-s
-returns-then-not-s c =
-    chunk_id ((mem c.args.pages.now c.args.rows.now c.args.blocks.now c.args.table.now)) c.args.id (chunk_bad ((mem c.args.pages.now c.args.rows.now c.args.blocks.now c.args.table.now)) c.args.id (shift_no ((mem c.args.pages.now c.args.rows.now c.args.blocks.now c.args.table.now)) _ c.shift-s.ensures (not_from_false _ c.if-not-s.true)))
+pub returns-in_err-s : goal.returns-in_err-s
+returns-in_err-s c =
+    let a = c.args in
+    let p = err_from_is_err_and c.from_residual.result c.from_residual.ensures.1 in
+    rw (p.1, p.2) (chunk_refused (mem a.pages.now a.rows.now a.blocks.now a.table.now) a.id _ c.in_err-s.ensures)
 
-pub chunk_of-requires : goal.chunk_of-requires
-chunk_of-requires c = shift_64 _ (shift _ (not_from_true _ c.if-not-s.false))
-
-pub returns-in-Negative : goal.returns-in-Negative
-returns-in-Negative c =
-    chunk_id ((mem c.args.pages.now c.args.rows.now c.args.blocks.now c.args.table.now)) c.args.id (chunk_natural ((mem c.args.pages.now c.args.rows.now c.args.blocks.now c.args.table.now)) c.args.id _ c.shift-s.ensures (shift_yes ((mem c.args.pages.now c.args.rows.now c.args.blocks.now c.args.table.now)) _ c.shift-s.ensures (not_from_true _ c.if-not-s.false)) _ (sym c.in-Negative.is ∙ c.chunk_of.ensures ∙ hop (chunk_of _) c.args.id c.ranges.id))
-
-pub returns-in-At : goal.returns-in-At
-returns-in-At c =
-    chunk_id ((mem c.args.pages.now c.args.rows.now c.args.blocks.now c.args.table.now)) c.args.id (chunk_natural ((mem c.args.pages.now c.args.rows.now c.args.blocks.now c.args.table.now)) c.args.id _ c.shift-s.ensures (shift_yes ((mem c.args.pages.now c.args.rows.now c.args.blocks.now c.args.table.now)) _ c.shift-s.ensures (not_from_true _ c.if-not-s.false)) _ (sym c.in-At.is ∙ c.chunk_of.ensures ∙ hop (chunk_of _) c.args.id c.ranges.id))
+pub returns : goal.returns
+returns c =
+    let a = c.args in
+    chunk_at (mem a.pages.now a.rows.now a.blocks.now a.table.now) a.id c.ranges.id _ c.in_ok-s.ensures _ c.chunk_of.ensures

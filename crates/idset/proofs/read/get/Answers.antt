@@ -1,27 +1,31 @@
 -- A size that is not allowed is refused; then by where the id lies. Assumes nothing.
-use mathlib.Core.Path.{◌∙◌}
+use mathlib.Core.Path.{refl}
+use Rattle.std.proofs.lemmas.Result.{err_from_is_err_and}
 use Rattle.layout.specs.Mem.{mem}
-use Rattle.calls.proofs.Shifts.{shift, shift_64, shift_no, shift_yes, split_is, chunk_small}
-use Rattle.idset.proofs.Gets.{get_bad, get_split}
-use Rattle.idset.proofs.Promises.{gets}
-use Rattle.std.proofs.lemmas.Bool.{not_from_false, not_from_true}
+use Rattle.calls.proofs.Shifts.{chunk_small}
+use Rattle.idset.proofs.Gets.{shift_is, allowed, get_refused, get_at}
 use Rattle.idset.proofs.read.get.Goals as goal
 
-pub returns-then-not-s : goal.returns-then-not-s
-returns-then-not-s c =
-    gets ((mem c.args.pages.now c.args.rows.now c.args.blocks.now c.args.table.now)) c.args.id (get_bad ((mem c.args.pages.now c.args.rows.now c.args.blocks.now c.args.table.now)) c.args.id (shift_no ((mem c.args.pages.now c.args.rows.now c.args.blocks.now c.args.table.now)) _ c.shift-s.ensures (not_from_false _ c.if-not-s.true)))
-
-pub split-requires : goal.split-requires
-split-requires c = shift_64 _ (shift _ (not_from_true _ c.if-not-s.false))
+pub returns-in_err-s : goal.returns-in_err-s
+returns-in_err-s c =
+    let a = c.args in
+    let p = err_from_is_err_and c.from_residual.result c.from_residual.ensures.1 in
+    rw (p.1, p.2) (get_refused (mem a.pages.now a.rows.now a.blocks.now a.table.now) a.id _ c.in_err-s.ensures)
 
 pub has-requires : goal.has-requires
 has-requires c =
-    let s = shift _ (not_from_true _ c.if-not-s.false) in let k = chunk_small _ c.args.id c.ranges.id _ c.split.ensures _ _ s c.in-At.is in (s.low, s.high, c.shift-s.ensures, k.0, k.1)
+    let a = c.args in
+    let x = mem a.pages.now a.rows.now a.blocks.now a.table.now in
+    let s = allowed x _ c.in_ok-s.ensures in
+    let k = chunk_small _ a.id c.ranges.id _ (c.in-Some.ensures) c.in-Some.c c.in-Some.o s refl in
+    (s.low, s.high, shift_is x _ c.in_ok-s.ensures, k.0, k.1)
 
-pub returns-in-Negative : goal.returns-in-Negative
-returns-in-Negative c =
-    gets ((mem c.args.pages.now c.args.rows.now c.args.blocks.now c.args.table.now)) c.args.id (get_split ((mem c.args.pages.now c.args.rows.now c.args.blocks.now c.args.table.now)) c.args.id _ c.shift-s.ensures (shift_yes ((mem c.args.pages.now c.args.rows.now c.args.blocks.now c.args.table.now)) _ c.shift-s.ensures (not_from_true _ c.if-not-s.false)) _ (split_is _ c.args.id c.ranges.id _ c.split.ensures _ c.in-Negative.is))
+pub returns-in-None : goal.returns-in-None
+returns-in-None c =
+    let a = c.args in
+    get_at (mem a.pages.now a.rows.now a.blocks.now a.table.now) a.id c.ranges.id _ c.in_ok-s.ensures _ c.in-None.ensures
 
-pub returns-in-At : goal.returns-in-At
-returns-in-At c =
-    gets ((mem c.args.pages.now c.args.rows.now c.args.blocks.now c.args.table.now)) c.args.id (c.has.ensures ∙ get_split ((mem c.args.pages.now c.args.rows.now c.args.blocks.now c.args.table.now)) c.args.id _ c.shift-s.ensures (shift_yes ((mem c.args.pages.now c.args.rows.now c.args.blocks.now c.args.table.now)) _ c.shift-s.ensures (not_from_true _ c.if-not-s.false)) _ (split_is _ c.args.id c.ranges.id _ c.split.ensures _ c.in-At.is))
+pub returns-in-Some : goal.returns-in-Some
+returns-in-Some c =
+    let a = c.args in
+    rw c.has.ensures (get_at (mem a.pages.now a.rows.now a.blocks.now a.table.now) a.id c.ranges.id _ c.in_ok-s.ensures _ c.in-Some.ensures)

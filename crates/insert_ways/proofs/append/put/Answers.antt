@@ -1,37 +1,7 @@
--- Of an open set, and an id that is not negative. Assumes nothing.
-use mathlib.Core.Path.{◌≡◌}
-use Prim.Native.Nat.{◌^◌, ◌<◌}
-use Rattle.numbers.specs.Ids.{split_of}
-use Rattle.numbers.specs.declared.Split.TheVariants as split
-use Rattle.layout.specs.Mem.{mem}
-use Rattle.calls.specs.Insert.{insert_by}
-use Rattle.calls.proofs.Shifts.{Shift, shift_64, split_is, chunk_small}
-use Rattle.insert_plan.proofs.Gates.{open_shift, insert_at_law}
-use Rattle.insert_ways.proofs.Ways.{appends_none, appends_of}
+-- The id lies in a chunk of an open set. Assumes nothing.
+use Rattle.insert_plan.proofs.Gates.{open_split}
 use Rattle.insert_ways.proofs.append.put.Goals as goal
-
-pub returns-then-table-lt16 : goal.returns-then-table-lt16
-returns-then-table-lt16 c =
-    appends_none (insert_by ((mem c.args.pages.now c.args.rows.now c.args.blocks.now c.args.table.now)) c.args.id) ((mem c.args.pages.now c.args.rows.now c.args.blocks.now c.args.table.now))
-
-pub returns-then-refusal-ne0 : goal.returns-then-refusal-ne0
-returns-then-refusal-ne0 c =
-    appends_none (insert_by ((mem c.args.pages.now c.args.rows.now c.args.blocks.now c.args.table.now)) c.args.id) ((mem c.args.pages.now c.args.rows.now c.args.blocks.now c.args.table.now))
-
-pub split-requires : goal.split-requires
-split-requires c =
-    shift_64 _ (open_shift ((mem c.args.pages.now c.args.rows.now c.args.blocks.now c.args.table.now)) _ _ c.refusal.ensures c.if-refusal-ne0.false c.shift-s.ensures)
-
-pub returns-in_default : goal.returns-in_default
-returns-in_default c =
-    appends_none (insert_by ((mem c.args.pages.now c.args.rows.now c.args.blocks.now c.args.table.now)) c.args.id) ((mem c.args.pages.now c.args.rows.now c.args.blocks.now c.args.table.now))
 
 pub into-requires : goal.into-requires
 into-requires c =
-    (((let known : Shift c.shift-s.result = open_shift ((mem c.args.pages.now c.args.rows.now c.args.blocks.now c.args.table.now)) _ _ c.refusal.ensures c.if-refusal-ne0.false c.shift-s.ensures in known)).low, ((let known : Shift c.shift-s.result = open_shift ((mem c.args.pages.now c.args.rows.now c.args.blocks.now c.args.table.now)) _ _ c.refusal.ensures c.if-refusal-ne0.false c.shift-s.ensures in known)).high, c.shift-s.ensures, ((let known : (c.in-At.c < 2 ^ 62) × (c.in-At.o < 2 ^ c.shift-s.result) = chunk_small _ c.args.id c.ranges.id _ c.split.ensures _ _ ((let known : Shift c.shift-s.result = open_shift ((mem c.args.pages.now c.args.rows.now c.args.blocks.now c.args.table.now)) _ _ c.refusal.ensures c.if-refusal-ne0.false c.shift-s.ensures in known)) c.in-At.is in known)).0, ((let known : (c.in-At.c < 2 ^ 62) × (c.in-At.o < 2 ^ c.shift-s.result) = chunk_small _ c.args.id c.ranges.id _ c.split.ensures _ _ ((let known : Shift c.shift-s.result = open_shift ((mem c.args.pages.now c.args.rows.now c.args.blocks.now c.args.table.now)) _ _ c.refusal.ensures c.if-refusal-ne0.false c.shift-s.ensures in known)) c.in-At.is in known)).1)
-
-pub returns : goal.returns
-returns c =
-    appends_of ((mem c.args.pages.now c.args.rows.now c.args.blocks.now c.args.table.now)) _ _ _
-    (insert_at_law ((mem c.args.pages.now c.args.rows.now c.args.blocks.now c.args.table.now)) c.args.id _ c.refusal.ensures c.if-refusal-ne0.false _ c.shift-s.ensures _ _ ((let known : split.At c.in-At.c c.in-At.o ≡ split_of c.shift-s.result c.args.id = split_is _ c.args.id c.ranges.id _ c.split.ensures _ c.in-At.is in known))) _
-    c.into.ensures
+    open_split _ _ c.open.ensures c.if-is_err.ensures.negation _ c.shift-s.ensures c.args.id c.ranges.id _ c.split.ensures _ _ c.in-Some.is

@@ -1,36 +1,21 @@
 -- Only a page takes a prepared id. Assumes nothing.
-use mathlib.Core.Path.{◌≡◌, sym, ◌∙◌}
+use mathlib.Core.Path.{sym, ◌∙◌, ap}
 use Rattle.layout.specs.Mem.{mem}
-use Rattle.layout.specs.Short.{word_in}
-use Rattle.layout.specs.declared.find.Word.TheVariants as word
 use Rattle.insert_plan.proofs.Readies.{page_ready}
-use Rattle.calls.proofs.Places.{none_at, row_at}
-use Rattle.insert_ways.proofs.Chunks.{prepared_bad, prepared_place, prepared_outside, prepared_page}
+use Rattle.insert_ways.proofs.Chunks.{prepared_page}
 use Rattle.insert_ways.proofs.chunk.put_prepared.Goals as goal
-
-pub returns-in_default : goal.returns-in_default
-returns-in_default c =
-    prepared_bad ((mem c.args.pages.now c.args.rows.now c.args.blocks.now c.args.table.now)) c.args.c c.args.o (sym c.in_default.is ∙ c.word_of.ensures)
+use Rattle.std.specs.Prelude.{Ok}
 
 pub mark-requires : goal.mark-requires
 mark-requires c =
-    (page_ready ((mem c.args.pages.now c.args.rows.now c.args.blocks.now c.args.table.now)) c.args.c c.args.o c.args.s c.requires.2 c.requires.0 c.requires.1 c.requires.3 c.requires.4 c.in-Is.w _ _ ((sym c.in-Page.is ∙ c.spot_of.ensures)))
-
-pub returns-in-Nowhere : goal.returns-in-Nowhere
-returns-in-Nowhere c =
-    prepared_place ((mem c.args.pages.now c.args.rows.now c.args.blocks.now c.args.table.now)) c.args.c c.args.o c.in-Is.w ((let known : word.Is c.in-Is.w ≡ word_in ((mem c.args.pages.now c.args.rows.now c.args.blocks.now c.args.table.now)).table c.args.c = sym c.in-Is.is ∙ c.word_of.ensures in known)) _
-    (none_at ((mem c.args.pages.now c.args.rows.now c.args.blocks.now c.args.table.now)) c.in-Is.w ((sym c.in-Nowhere.is ∙ c.spot_of.ensures)))
-
-pub returns-in-Row : goal.returns-in-Row
-returns-in-Row c =
-    prepared_place ((mem c.args.pages.now c.args.rows.now c.args.blocks.now c.args.table.now)) c.args.c c.args.o c.in-Is.w ((let known : word.Is c.in-Is.w ≡ word_in ((mem c.args.pages.now c.args.rows.now c.args.blocks.now c.args.table.now)).table c.args.c = sym c.in-Is.is ∙ c.word_of.ensures in known)) _
-    (row_at ((mem c.args.pages.now c.args.rows.now c.args.blocks.now c.args.table.now)) c.in-Is.w _ _ _ ((sym c.in-Row.is ∙ c.spot_of.ensures))).names
+    let a = c.args in
+    let r = c.requires in
+    let x = mem a.pages.now a.rows.now a.blocks.now a.table.now in
+    page_ready x a.c a.o a.s r.2 r.0 r.1 r.3 r.4 c.in_ok-w.w _ _ (sym (ap Ok c.in-Page.is) ∙ c.in_ok-spot_of.ensures)
 
 pub returns-in-Page : goal.returns-in-Page
 returns-in-Page c =
+    let a = c.args in
     let m = c.mark.ensures in
-    prepared_page ((mem c.args.pages.now c.args.rows.now c.args.blocks.now c.args.table.now)).pages ((mem c.args.pages.now c.args.rows.now c.args.blocks.now c.args.table.now)).rows ((mem c.args.pages.now c.args.rows.now c.args.blocks.now c.args.table.now)).blocks ((mem c.args.pages.now c.args.rows.now c.args.blocks.now c.args.table.now)).table c.args.c c.args.o c.in-Is.w ((let known : word.Is c.in-Is.w ≡ word_in ((mem c.args.pages.now c.args.rows.now c.args.blocks.now c.args.table.now)).table c.args.c = sym c.in-Is.is ∙ c.word_of.ensures in known)) _ _ ((sym c.in-Page.is ∙ c.spot_of.ensures)) _ _ m.0 m.1
-
-pub returns-in-Bad : goal.returns-in-Bad
-returns-in-Bad c =
-    prepared_outside ((mem c.args.pages.now c.args.rows.now c.args.blocks.now c.args.table.now)) c.args.c c.args.o c.in-Is.w ((let known : word.Is c.in-Is.w ≡ word_in ((mem c.args.pages.now c.args.rows.now c.args.blocks.now c.args.table.now)).table c.args.c = sym c.in-Is.is ∙ c.word_of.ensures in known)) ((sym c.in-Bad.is ∙ c.spot_of.ensures))
+    prepared_page a.pages.now a.rows.now a.blocks.now a.table.now a.c a.o c.in_ok-w.w c.in_ok-w.ensures _ _
+    (sym (ap Ok c.in-Page.is) ∙ c.in_ok-spot_of.ensures) _ _ m.0 m.1

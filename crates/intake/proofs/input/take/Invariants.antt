@@ -1,15 +1,11 @@
--- After k turns the first k bytes are taken. Assumes nothing.
+-- What is left of the part is taken from here on.
 use mathlib.Core.Path.{◌≡◌}
-use Prim.Native.Nat.{◌-◌}
-use lib.ListN.{length, take}
+use lib.ListN.{drop}
 use Rattle.layout.specs.Mem.{mem}
 use Rattle.program.specs.Reader.{fed, feed}
 use Rattle.intake.specs.Puts.{put_by}
 use Rattle.intake.proofs.input.take.Given as goal
 
-abbrev pub invariant-loop-k : goal.invariant-loop-k
-invariant-loop-k l = (fed l.at (mem l.pages l.rows l.blocks l.table) ≡ feed put_by (fed l.initial.at (mem l.initial.pages l.initial.rows l.initial.blocks l.initial.table)) (take l.k l.part))
-    × (length l.pages ≡ length l.initial.pages) × (length l.rows ≡ length l.initial.rows) × (length l.blocks ≡ length l.initial.blocks) × (length l.table ≡ length l.initial.table)
-
-abbrev pub decreases-loop-k : goal.decreases-loop-k
-decreases-loop-k l = length l.part - l.k
+abbrev pub invariant-loop-b : goal.invariant-loop-b
+invariant-loop-b l =
+    feed put_by (fed l.at (mem l.pages l.rows l.blocks l.table)) (drop l.b-index l.part) ≡ feed put_by (fed l.fn.i (mem l.fn.pages l.fn.rows l.fn.blocks l.fn.table)) l.part

@@ -9,4 +9,4 @@ pub overflow_add-result : goal.overflow_add-result
 overflow_add-result c = parts_fits _ _ c.if-t-eq0.false c.ranges.t.fits
 
 pub returns : goal.returns
-returns c = parts_some _ c.args.slots _ c.if-t-eq0.false c.greatest_of.ensures
+returns c = parts_some _ c.args.slots _ c.if-t-eq0.false c.max.ensures

@@ -7,7 +7,6 @@ use Rattle.calls.specs.Iteration.{fill_run}
 use Rattle.iteration.proofs.listing.fill_run.Given as goal
 
 abbrev pub invariant-loop-i : goal.invariant-loop-i
-invariant-loop-i l = let x = mem l.pages l.rows l.blocks l.table in (fill_run x l.lo (l.n - l.i) l.i l.out l.k ≡ fill_run x l.lo (l.n - l.e) l.e l.initial.out 0) × (length l.out ≡ length l.initial.out)
-
-abbrev pub decreases-loop-i : goal.decreases-loop-i
-decreases-loop-i l = l.n - l.i
+invariant-loop-i l =
+    let x = mem l.pages l.rows l.blocks l.table in
+    (fill_run x l.lo (l.n - l.i) l.i l.out l.k ≡ fill_run x l.lo (l.n - l.e) l.e l.initial.out 0) × (length l.out ≡ length l.initial.out)

@@ -1,27 +1,24 @@
 -- A record that is not full ends; a full one by whether a member lies past its last id. Assumes nothing.
-use mathlib.Core.Path.{◌∙◌}
+use borrow.Author.Rules.{rules}
+use lib.Signed.{mag}
 use Rattle.layout.specs.Mem.{mem}
+use mathlib.Core.Path.{refl}
+use Prim.Native.Nat.{◌^◌, ◌<◌}
+use native.Mathlib.Omega.{arith}
 use Rattle.calls.specs.Iteration.{last_id}
 use Rattle.iteration.proofs.Nexts.{next_fits}
-use Rattle.iteration.proofs.Records.{record_short, record_refused, record_ends, not_largest, record_goes}
+use Rattle.iteration.proofs.Records.{not_largest, record_goes}
 use Rattle.iteration.proofs.listing.record_of.Goals as goal
-
-pub returns-then-count-lt64 : goal.returns-then-count-lt64
-returns-then-count-lt64 c =
-    record_short ((mem c.args.pages.now c.args.rows.now c.args.blocks.now c.args.table.now)) c.args.ids c.args.k c.args.start c.ranges.start c.if-count-lt64.true
 
 pub overflow_add-result : goal.overflow_add-result
 overflow_add-result c =
-    next_fits (last_id c.args.ids) (record { sfits = c.last-1.given }) (not_largest ((mem c.args.pages.now c.args.rows.now c.args.blocks.now c.args.table.now)) c.args.ids c.args.k c.args.start c.ranges.start c.if-count-lt64.false c.last-1.given _ c.any_past.ensures _ c.in-Is.is c.requires c.if-b.true)
+    let a = c.args in
+    let f : mag (last_id a.ids) < 2 ^ 63 = omega arith in
+    next_fits (last_id a.ids) (record { sfits = f })
+    (not_largest (mem a.pages.now a.rows.now a.blocks.now a.table.now) a.ids a.k a.start c.ranges.start c.if-count-lt64.false f _ (rw c.if-more.true at c.in-Ok.ensures) c.requires refl)
 
-pub returns-then-b : goal.returns-then-b
-returns-then-b c =
-    record_goes ((mem c.args.pages.now c.args.rows.now c.args.blocks.now c.args.table.now)) c.args.ids c.args.k c.args.start c.ranges.start c.if-count-lt64.false c.last-1.given _ c.any_past.ensures _ c.in-Is.is c.requires c.if-b.true
-
-pub returns-in-Refused : goal.returns-in-Refused
-returns-in-Refused c =
-    c.refused.ensures ∙ record_refused ((mem c.args.pages.now c.args.rows.now c.args.blocks.now c.args.table.now)) c.args.ids c.args.k c.args.start c.ranges.start c.if-count-lt64.false c.last-1.given _ c.any_past.ensures _ c.in-Refused.is
-
-pub returns-else-b : goal.returns-else-b
-returns-else-b c =
-    record_ends ((mem c.args.pages.now c.args.rows.now c.args.blocks.now c.args.table.now)) c.args.ids c.args.k c.args.start c.ranges.start c.if-count-lt64.false c.last-1.given _ c.any_past.ensures _ c.in-Is.is c.if-b.false
+pub returns-then-more : goal.returns-then-more
+returns-then-more c =
+    let a = c.args in
+    let f : mag (last_id a.ids) < 2 ^ 63 = omega arith in
+    record_goes (mem a.pages.now a.rows.now a.blocks.now a.table.now) a.ids a.k a.start c.ranges.start c.if-count-lt64.false f _ (rw c.if-more.true at c.in-Ok.ensures) c.requires refl _ (search rules)

@@ -7,6 +7,3 @@ use Rattle.layout_walk.proofs.owners.first_free.Given as goal
 
 abbrev pub invariant-loop-k : goal.invariant-loop-k
 invariant-loop-k l = first_free (λ (j : ℕ). get_or l.table (l.a + j) 0) l.k (l.n - l.k) ≡ first_free (λ (j : ℕ). get_or l.table (l.a + j) 0) l.i (l.n - l.i)
-
-abbrev pub decreases-loop-k : goal.decreases-loop-k
-decreases-loop-k l = l.n - l.k

@@ -1,5 +1,5 @@
 -- `k` is the count up to `i`. Assumes nothing.
-use Prim.Native.Nat.{ℕ, ◌+◌, ◌-◌, ◌≤◌}
+use Prim.Native.Nat.{ℕ, ◌+◌, ◌≤◌}
 use mathlib.Core.Path.{◌≡◌}
 use mathlib.Core.Bool.{not}
 use lib.ListN.{get_or}
@@ -8,7 +8,4 @@ use Rattle.sums.specs.Ids.{count}
 use Rattle.layout_walk.proofs.owners.owned_count.Given as goal
 
 abbrev pub invariant-loop-i : goal.invariant-loop-i
-invariant-loop-i l = (l.i ≤ l.n) × (l.k ≤ l.i) × (l.k ≡ count (λ (j : ℕ). not (eqb (get_or l.table (l.a + j) 0) 0)) l.i)
-
-abbrev pub decreases-loop-i : goal.decreases-loop-i
-decreases-loop-i l = l.n - l.i
+invariant-loop-i l = (l.k ≤ l.i) × (l.k ≡ count (λ (j : ℕ). not (eqb (get_or l.table (l.a + j) 0) 0)) l.i)

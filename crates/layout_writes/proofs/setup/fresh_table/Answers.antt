@@ -1,6 +1,6 @@
 -- Zeros, then the sizes on top. Assumes nothing.
-use Rattle.layout_writes.proofs.Fills.{fresh_table_law}
+use Rattle.layout_writes.proofs.Fills.{table_fresh}
 use Rattle.layout_writes.proofs.setup.fresh_table.Goals as goal
 
 pub returns : goal.returns
-returns c = let a = c.args in fresh_table_law a.h a.table.now _ _ c.zero64.ensures c.put_sizes.ensures
+returns c = let a = c.args in table_fresh a.h a.table.now _ _ c.requires.1 (c.fill.ensures.after (λ y e. e)) c.put_sizes.ensures

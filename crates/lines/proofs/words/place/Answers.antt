@@ -1,42 +1,19 @@
-use mathlib.Core.Path.{◌≡◌, sym, ◌∙◌}
-use Prim.Native.Nat.{ℕ}
-use borrow.Author.Count.{below_more}
-use native.Mathlib.Omega.{arith}
-use Rattle.lines.specs.Words.{word_at}
+-- The first part of the names that is the word, or none. Assumes nothing.
+use Rattle.std.proofs.Common.{rules, tests}
+use Rattle.std.proofs.lemmas.Iterator.{IsFirst-from_position}
+use Rattle.std.proofs.lemmas.Iterator.Splits.{YieldsList-from_slice_split}
+use Rattle.std.proofs.option.Match.{if_some, if_none}
+use Rattle.lines.proofs.Splits.{is_space, Yes, No, names_some, names_none}
 use Rattle.lines.proofs.words.place.Goals as goal
 
-pub count-n-requires : goal.count-n-requires
-count-n-requires c = tt
+pub returns-in-Some : goal.returns-in-Some
+returns-in-Some c =
+    let it = c.args.it.now in
+    let names = c.args.names.now in
+    names_some it names c.in-Some.i (if_some _ _ _ c.in-Some.is (IsFirst-from_position _ _ _ (Yes it names) (No it names) c.position.ensures.ran (YieldsList-from_slice_split _ is_space names c.split.ensures.rest c.split.ensures.done c.split.ensures.closure (λ x b q k. search (rules, tests))) (λ x q k. search (rules, tests)) (λ x q k. search (rules, tests))))
 
-pub loop-i-init : goal.loop-i-init
-loop-i-init c = (omega arith, (λ k h e. omega arith))
-
-pub same-requires : goal.same-requires
-same-requires c = tt
-
-pub returns-then-same : goal.returns-then-same
-returns-then-same c =
-    record {
-      found = λ h. sym c.word.ensures ∙ c.same.ensures.0 c.if-same.true;
-      none_before = c.loop-i.invariant.1;
-      at_most = omega (arith, c.count-n.ensures);
-    }
-
-pub loop-i-smaller : goal.loop-i-smaller
-loop-i-smaller c = omega arith
-
-pub loop-i-preserved : goal.loop-i-preserved
-loop-i-preserved c =
-    let w = c.word.ensures in
-    let other : (word_at c.loop-i.i c.args.names.now ≡ c.args.it.now) → ⊥ =
-    λ e. (let t = c.same.ensures.1 (w ∙ e) in let f = c.if-same.false in let z : ◌≡◌ {A = ℕ} 0 1 = cc in omega arith) in
-    (omega arith, below_more _ _ c.loop-i.invariant.1 other)
-
-pub returns : goal.returns
-returns c =
-    let n = c.count-n.ensures in
-    record {
-      found = λ h. absurd (omega (arith, n));
-      none_before = c.loop-i.invariant.1;
-      at_most = omega (arith, n);
-    }
+pub returns-in-None : goal.returns-in-None
+returns-in-None c =
+    let it = c.args.it.now in
+    let names = c.args.names.now in
+    names_none it names c.count.result c.count.ensures (if_none _ _ c.in-None.is (IsFirst-from_position _ _ _ (Yes it names) (No it names) c.position.ensures.ran (YieldsList-from_slice_split _ is_space names c.split.ensures.rest c.split.ensures.done c.split.ensures.closure (λ x b q k. search (rules, tests))) (λ x q k. search (rules, tests)) (λ x q k. search (rules, tests))))

@@ -1,9 +1,6 @@
--- The prefix beside the entry, and the part. Assumes nothing.
-use Rattle.lists.proofs.Near.{judged_range, entry_few, spot_block, seat_placed}
+-- The prefix beside the entry, and the part.
+use Rattle.lists.proofs.Near.{spot_block, seat_placed}
 use Rattle.lists.proofs.each.placed.Goals as goal
-
-pub prefix_at-requires : goal.prefix_at-requires
-prefix_at-requires c = (judged_range c.requires.0, entry_few c.requires.0 c.args.c c.requires.1)
 
 pub below_in-requires : goal.below_in-requires
 below_in-requires c = spot_block c.requires.0 c.args.c c.args.o c.requires.2 _ c.of_chunk-q.ensures

@@ -1,18 +1,9 @@
--- The short way's answer, or the whole way's on memory that the short way left alone. Assumes nothing.
-use mathlib.Core.Path.{◌∙◌}
-use Rattle.numbers.proofs.Signs.{hop}
-use Rattle.layout.specs.Mem.{mem}
-use Rattle.calls.specs.Insert.{insert_by}
+-- The short way's answer, or the whole way's on memory that the short way left alone.
 use Rattle.inserts.proofs.Promises.{sets_if_new}
-use Rattle.insert_ways.proofs.Ways.{short_insert, then_insert}
 use Rattle.lists.proofs.insert.one.Goals as goal
 
-pub returns-in-Is : goal.returns-in-Is
-returns-in-Is c =
-    sets_if_new ((mem c.args.pages.now c.args.rows.now c.args.blocks.now c.args.table.now)) c.args.id c.ranges.id
-    (short_insert ((mem c.args.pages.now c.args.rows.now c.args.blocks.now c.args.table.now)) _ _ _ c.put.ensures _ c.in-Is.is ∙ hop (insert_by ((mem c.args.pages.now c.args.rows.now c.args.blocks.now c.args.table.now))) c.args.id c.ranges.id)
+pub returns-in-Some : goal.returns-in-Some
+returns-in-Some c = sets_if_new _ c.args.id c.ranges.id _ _ c.in-Some.ensures.0
 
-pub returns-in-Elsewhere : goal.returns-in-Elsewhere
-returns-in-Elsewhere c =
-    sets_if_new ((mem c.args.pages.now c.args.rows.now c.args.blocks.now c.args.table.now)) c.args.id c.ranges.id
-    (then_insert ((mem c.args.pages.now c.args.rows.now c.args.blocks.now c.args.table.now)) _ _ _ c.put.ensures c.in-Elsewhere.is _ _ c.anywhere.ensures ∙ hop (insert_by ((mem c.args.pages.now c.args.rows.now c.args.blocks.now c.args.table.now))) c.args.id c.ranges.id)
+pub returns-in-None : goal.returns-in-None
+returns-in-None c = sets_if_new _ c.args.id c.ranges.id _ _ (rw c.in-None.ensures at c.anywhere.ensures)

@@ -1,19 +1,33 @@
--- By what was judged. Assumes nothing.
-use mathlib.Core.Path.{refl, sym, ◌∙◌}
+-- By what was judged.
+use mathlib.Core.Path.{◌≡◌, refl, sym, ◌∙◌}
+use Rattle.std.proofs.lemmas.Result.{err_from_is_err_and}
+use mir.Syntax.{w64}
+use mir.Val.{of_z, to_z}
+use borrow.Author.Rules.{rules}
+use Rattle.numbers.proofs.Signs.{hop}
 use Rattle.layout.specs.Mem.{mem}
-use Rattle.document.specs.declared.answer.Outcome.TheVariants.{Done, Refused}
-use Rattle.lists.specs.Lists.{rank_if_all}
+use Rattle.lists.specs.Ways.{Judged}
+use Rattle.lists.specs.Lists.{rank_if_all, one_by}
 use Rattle.lists.proofs.Outcomes.{judged, answers_all}
 use Rattle.lists.proofs.read.rank_if_set_all.Goals as goal
 
-pub rank_if_each-requires : goal.rank_if_each-requires
-rank_if_each-requires c =
-    judged ((mem c.args.pages.now c.args.rows.now c.args.blocks.now c.args.table.now)) (sym c.judge.ensures ∙ c.in_default.is)
+pub returns-in_err-judge : goal.returns-in_err-judge
+returns-in_err-judge c =
+    let a = c.args in
+    let x = mem a.pages.now a.rows.now a.blocks.now a.table.now in
+    let p = err_from_is_err_and c.from_residual.result c.from_residual.ensures.1 in
+    rw (p.1, p.2) (answers_all x rank_if_all a.ids.now a.answers.now a.answers.now _ c.in_err-judge.ensures refl)
 
-pub returns-in_default : goal.returns-in_default
-returns-in_default c =
-    answers_all ((mem c.args.pages.now c.args.rows.now c.args.blocks.now c.args.table.now)) rank_if_all c.args.ids.now c.args.answers.now _ Done (sym c.in_default.is ∙ c.judge.ensures) c.rank_if_each.ensures
+pub answer_each-requires : goal.answer_each-requires
+answer_each-requires c =
+    let a = c.args in
+    let x = mem a.pages.now a.rows.now a.blocks.now a.table.now in
+    let w = judged x (sym c.in_ok-judge.ensures) in
+    let j : Judged x c.read-h.result = record { walks = w.0; sizes = c.read-h.ensures } in
+    search rules
 
 pub returns : goal.returns
 returns c =
-    answers_all ((mem c.args.pages.now c.args.rows.now c.args.blocks.now c.args.table.now)) rank_if_all c.args.ids.now c.args.answers.now c.args.answers.now (Refused _) (sym c.in-Refused.is ∙ c.judge.ensures) refl
+    let a = c.args in
+    let x = mem a.pages.now a.rows.now a.blocks.now a.table.now in
+    answers_all x rank_if_all a.ids.now a.answers.now _ _ c.in_ok-judge.ensures (c.answer_each.ensures (one_by x rank_if_all) (λ z b f p. let q : b ≡ one_by x rank_if_all (to_z w64 (of_z w64 z)) = search rules in q ∙ hop (one_by x rank_if_all) z f))

@@ -1,14 +1,14 @@
--- By what the short test finds. Assumes nothing.
-use mathlib.Core.Path.{refl, sym, ◌∙◌}
-use Rattle.layout.specs.declared.find.Word.TheVariants.{Is, Bad}
+-- By what the short test finds.
+use mathlib.Core.Path.{refl}
+use Rattle.std.proofs.lemmas.Result.{err_from_is_err_and}
+use Rattle.std.specs.Prelude.{Err, Ok}
 use Rattle.lists.proofs.Near.{far_spot}
 use Rattle.lists.proofs.spot.far.Goals as goal
 
-pub spot_of-requires : goal.spot_of-requires
-spot_of-requires c = let z = c.requires.0.walks.sizes in (z.s_low, z.s_high)
+pub returns-in_err-word_of : goal.returns-in_err-word_of
+returns-in_err-word_of c =
+    let p = err_from_is_err_and c.from_residual.result c.from_residual.ensures.1 in
+    rw (p.1, p.2) (far_spot c.requires.0 c.args.c (Err _) _ c.in_err-word_of.ensures refl)
 
-pub returns-in-Is : goal.returns-in-Is
-returns-in-Is c = far_spot c.requires.0 c.args.c (Is c.in-Is.w) _ (sym c.in-Is.is ∙ c.word_of.ensures) c.spot_of.ensures
-
-pub returns-in-Bad : goal.returns-in-Bad
-returns-in-Bad c = far_spot c.requires.0 c.args.c Bad _ (sym c.in-Bad.is ∙ c.word_of.ensures) refl
+pub returns : goal.returns
+returns c = far_spot c.requires.0 c.args.c (Ok _) _ c.in_ok-word_of.ensures c.spot_of.ensures

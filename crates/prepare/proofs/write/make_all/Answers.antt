@@ -1,7 +1,7 @@
 use mathlib.Core.Path.{sym, subst}
 use native.Mathlib.Omega.{arith}
 use Rattle.document.specs.Sizes.{InRange}
-use Rattle.prepare.proofs.Steady.{sound_range, underway_none, underway_turn, underway_more, underway_end}
+use Rattle.prepare.proofs.Steady.{sound_few, sound_range, underway_none, underway_turn, underway_more, underway_end}
 use Rattle.prepare.proofs.write.make_all.Goals as goal
 
 pub free_page-p-requires : goal.free_page-p-requires
@@ -21,13 +21,6 @@ pub next_page-p-requires : goal.next_page-p-requires
 next_page-p-requires c =
     (let known : InRange c.read-h.result = subst InRange (sym c.read-h.ensures) (sound_range c.args.pages.now c.args.rows.now c.args.table.now c.args.c c.requires) in known)
 
-pub overflow_add-i : goal.overflow_add-i
-overflow_add-i c =
-    omega (arith, ((underway_turn _ _ _ _ c.args.c c.requires _ _ _ _ c.loop-i.i c.loop-i.invariant (omega (arith, c.loop-i-test.true)))).chunk)
-
-pub loop-i-smaller : goal.loop-i-smaller
-loop-i-smaller c = omega (arith, c.loop-i-test.true)
-
 pub loop-i-preserved : goal.loop-i-preserved
 loop-i-preserved c =
     let k = c.make_dense in
@@ -37,3 +30,6 @@ loop-i-preserved c =
 pub returns : goal.returns
 returns c =
     underway_end _ _ _ _ c.args.c c.requires _ _ _ _ c.loop-i.i c.loop-i.invariant (omega (arith, c.loop-i-test.false))
+
+pub overflow_add-i-end : goal.overflow_add-i-end
+overflow_add-i-end c = omega (arith, sound_few c.args.pages.now c.args.rows.now c.args.table.now c.args.c c.requires)

@@ -1,33 +1,35 @@
--- The form, then where the id lies. Assumes nothing.
-use mathlib.Core.Path.{sym, ◌∙◌}
-use Prim.Native.Nat.{◌≤◌}
+-- The form, then where the id lies.
+use mathlib.Core.Path.{refl}
 use native.Mathlib.Omega.{arith}
+use Rattle.std.proofs.lemmas.Result.{err_from_is_err_and}
 use Rattle.layout.specs.Mem.{mem}
-use Rattle.calls.proofs.Shifts.{split_is, chunk_small}
+use Rattle.calls.proofs.Shifts.{chunk_small}
 use Rattle.ranked.proofs.Modes.{form_shift}
-use Rattle.ranked.proofs.Answers.{rank_of, rank_form, rank_split_law}
+use Rattle.ranked.proofs.Answers.{rank_refused, rank_open, rank_ranked}
 use Rattle.ranked.proofs.rank.rank.Goals as goal
 
+pub returns-in_err-form_in : goal.returns-in_err-form_in
+returns-in_err-form_in c =
+    let a = c.args in
+    let p = err_from_is_err_and c.from_residual.result c.from_residual.ensures.1 in
+    rw (p.1, p.2) (rank_refused (mem a.pages.now a.rows.now a.blocks.now a.table.now) a.id _ c.in_err-form_in.ensures)
+
+pub returns-in-Open : goal.returns-in-Open
+returns-in-Open c = let a = c.args in rank_open (mem a.pages.now a.rows.now a.blocks.now a.table.now) a.id _ c.in_ok-form_in.ensures c.in-Open.is
+
 pub split-requires : goal.split-requires
-split-requires c =
-    let s = form_shift c.args.table.now (sym c.form_in.ensures ∙ c.in-Ranked.is) in omega (arith, c.shift-s.ensures)
+split-requires c = let s = form_shift c.args.table.now _ c.in_ok-form_in.ensures in omega arith
 
 pub rank_at-requires : goal.rank_at-requires
 rank_at-requires c =
-    let s = form_shift c.args.table.now (sym c.form_in.ensures ∙ c.in-Ranked.is) in let e = c.shift-s.ensures in let low : 9 ≤ c.shift-s.result = omega arith in let high : c.shift-s.result ≤ 25 = omega arith in let k = chunk_small _ c.args.id c.ranges.id _ c.split.ensures _ _ (record { low = low; high = high }) c.in-At.is in (low, high, e, k.0, k.1)
+    let s = form_shift c.args.table.now _ c.in_ok-form_in.ensures in
+    let k = chunk_small _ c.args.id c.ranges.id _ c.in-Some.ensures c.in-Some.c c.in-Some.o (record { low = omega arith; high = omega arith }) refl in
+    (omega arith, omega arith, c.shift-s.ensures, k.0, k.1)
 
-pub returns-in-Bad : goal.returns-in-Bad
-returns-in-Bad c =
-    rank_of ((mem c.args.pages.now c.args.rows.now c.args.blocks.now c.args.table.now)) c.args.id _ (rank_form ((mem c.args.pages.now c.args.rows.now c.args.blocks.now c.args.table.now)) c.args.id _ (sym c.form_in.ensures ∙ c.in-Bad.is))
+pub returns-in_default : goal.returns-in_default
+returns-in_default c =
+    let a = c.args in rank_ranked (mem a.pages.now a.rows.now a.blocks.now a.table.now) a.id c.ranges.id _ c.in_ok-form_in.ensures c.in-Ranked.is _ c.shift-s.ensures _ c.in_default.ensures _ refl
 
-pub returns-in-Open : goal.returns-in-Open
-returns-in-Open c =
-    rank_of ((mem c.args.pages.now c.args.rows.now c.args.blocks.now c.args.table.now)) c.args.id _ (rank_form ((mem c.args.pages.now c.args.rows.now c.args.blocks.now c.args.table.now)) c.args.id _ (sym c.form_in.ensures ∙ c.in-Open.is))
-
-pub returns-in-Negative : goal.returns-in-Negative
-returns-in-Negative c =
-    rank_of ((mem c.args.pages.now c.args.rows.now c.args.blocks.now c.args.table.now)) c.args.id _ (rank_split_law ((mem c.args.pages.now c.args.rows.now c.args.blocks.now c.args.table.now)) c.args.id (sym c.form_in.ensures ∙ c.in-Ranked.is) _ c.shift-s.ensures _ (split_is _ c.args.id c.ranges.id _ c.split.ensures _ c.in-Negative.is))
-
-pub returns-in-At : goal.returns-in-At
-returns-in-At c =
-    rank_of ((mem c.args.pages.now c.args.rows.now c.args.blocks.now c.args.table.now)) c.args.id _ (c.rank_at.ensures ∙ rank_split_law ((mem c.args.pages.now c.args.rows.now c.args.blocks.now c.args.table.now)) c.args.id (sym c.form_in.ensures ∙ c.in-Ranked.is) _ c.shift-s.ensures _ (split_is _ c.args.id c.ranges.id _ c.split.ensures _ c.in-At.is))
+pub returns-in-Some : goal.returns-in-Some
+returns-in-Some c =
+    let a = c.args in rank_ranked (mem a.pages.now a.rows.now a.blocks.now a.table.now) a.id c.ranges.id _ c.in_ok-form_in.ensures c.in-Ranked.is _ c.shift-s.ensures _ c.in-Some.ensures _ c.rank_at.ensures

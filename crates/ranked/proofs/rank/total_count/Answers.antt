@@ -1,18 +1,18 @@
--- The form, then the header word. Assumes nothing.
-use mathlib.Core.Path.{refl, sym, ap, ◌∙◌}
+-- The form decides.
+use mathlib.Core.Path.{refl}
+use Rattle.std.proofs.lemmas.Result.{err_from_is_err_and}
 use Rattle.layout.specs.Mem.{mem}
-use Rattle.document.specs.declared.answer.Amount.TheVariants.{Of}
 use Rattle.ranked.proofs.Answers.{total_of}
 use Rattle.ranked.proofs.rank.total_count.Goals as goal
 
-pub returns-in-Bad : goal.returns-in-Bad
-returns-in-Bad c =
-    total_of ((mem c.args.pages.now c.args.rows.now c.args.blocks.now c.args.table.now)) _ _ (sym c.form_in.ensures ∙ c.in-Bad.is) refl
+pub returns-in_err-form_in : goal.returns-in_err-form_in
+returns-in_err-form_in c =
+    let a = c.args in
+    let p = err_from_is_err_and c.from_residual.result c.from_residual.ensures.1 in
+    rw (p.1, p.2) (total_of (mem a.pages.now a.rows.now a.blocks.now a.table.now) _ _ c.in_err-form_in.ensures refl)
 
 pub returns-in-Open : goal.returns-in-Open
-returns-in-Open c =
-    total_of ((mem c.args.pages.now c.args.rows.now c.args.blocks.now c.args.table.now)) _ _ (sym c.form_in.ensures ∙ c.in-Open.is) refl
+returns-in-Open c = let a = c.args in total_of (mem a.pages.now a.rows.now a.blocks.now a.table.now) _ _ c.in_ok-form_in.ensures (rw c.in-Open.is refl)
 
 pub returns-in-Ranked : goal.returns-in-Ranked
-returns-in-Ranked c =
-    total_of ((mem c.args.pages.now c.args.rows.now c.args.blocks.now c.args.table.now)) _ _ (sym c.form_in.ensures ∙ c.in-Ranked.is) (ap Of c.total.ensures)
+returns-in-Ranked c = let a = c.args in total_of (mem a.pages.now a.rows.now a.blocks.now a.table.now) _ _ c.in_ok-form_in.ensures (rw c.in-Ranked.is (rw c.total.ensures refl))

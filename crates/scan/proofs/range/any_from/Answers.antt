@@ -6,4 +6,5 @@ use Rattle.scan.proofs.range.any_from.Goals as goal
 
 pub returns : goal.returns
 returns c =
-    c.any_run.ensures ∙ from_is ((mem c.args.pages.now c.args.rows.now c.args.blocks.now c.args.table.now)) c.args.lo c.args.hi _ _ (c.first-e.ensures _ _ _) c.number.ensures.0
+    let a = c.args in
+    c.any_run.ensures ∙ from_is (mem a.pages.now a.rows.now a.blocks.now a.table.now) a.lo a.hi _ _ (c.first-e.ensures _ _ _) c.number.ensures.0

@@ -1,39 +1,43 @@
-use mathlib.Core.Path.{sym, ◌∙◌}
-use native.Mathlib.Omega.{arith}
+use mathlib.Core.Path.{◌∙◌}
+use mathlib.Core.Bool.{true, false}
+use Rattle.std.specs.Prelude.{Ok, Err}
+use Rattle.std.proofs.lemmas.Result.{err_from_is_err_and}
 use Rattle.layout.specs.Mem.{mem}
-use Rattle.entries.proofs.Runs.{run}
-use Rattle.entries.proofs.Clips.{shift_is, quotient_is}
-use Rattle.scan.proofs.Ranges.{run_past, run_found, run_next, run_end}
+use Rattle.entries.proofs.Clips.{quotient_is}
+use Rattle.scan.proofs.Ranges.{run_past, run_turn, run_end}
 use Rattle.scan.proofs.range.any_run.Goals as goal
-
-pub high-last-requires : goal.high-last-requires
-high-last-requires c =
-    shift_is (run ((mem c.args.pages.now c.args.rows.now c.args.blocks.now c.args.table.now)).table c.requires.0) c.shift.ensures
-
-pub chunk-requires : goal.chunk-requires
-chunk-requires c = (c.requires.0, omega (arith, c.loop-i-test, c.requires.1))
 
 pub returns-then-last-chunk : goal.returns-then-last-chunk
 returns-then-last-chunk c =
-    let l = c.loop-i in run_past ((mem c.args.pages.now c.args.rows.now c.args.blocks.now c.args.table.now)) c.args.lo c.args.hi l.i c.args.n c.loop-i-test.true _ _ c.chunk.ensures (quotient_is c.shift.ensures c.args.hi c.high-last.ensures) c.if-last-chunk.true ∙ l.invariant
+    let a = c.args in
+    let l = c.loop-i in
+    let q = quotient_is c.shift.ensures a.hi c.high-last.ensures in
+    run_past (mem a.pages.now a.rows.now a.blocks.now a.table.now) a.lo a.hi l.i a.n c.loop-i-test.true _ _ c.chunk.ensures q c.if-last-chunk.true ∙ l.invariant
 
-pub any_entry-r-requires : goal.any_entry-r-requires
-any_entry-r-requires c = (c.requires.0, omega (arith, c.loop-i-test, c.requires.1))
+pub returns-in_err-any_entry : goal.returns-in_err-any_entry
+returns-in_err-any_entry c =
+    let a = c.args in
+    let l = c.loop-i in
+    let q = quotient_is c.shift.ensures a.hi c.high-last.ensures in
+    let p = err_from_is_err_and c.from_residual.result c.from_residual.ensures.1 in
+    rw (p.1, p.2) (run_turn (mem a.pages.now a.rows.now a.blocks.now a.table.now) a.lo a.hi l.i a.n c.loop-i-test.true _ _ c.chunk.ensures q c.if-last-chunk.false (Err _) c.in_err-any_entry.ensures ∙ l.invariant)
 
-pub returns-then-not-is_no : goal.returns-then-not-is_no
-returns-then-not-is_no c =
-    let l = c.loop-i in run_found ((mem c.args.pages.now c.args.rows.now c.args.blocks.now c.args.table.now)) c.args.lo c.args.hi l.i c.args.n c.loop-i-test.true _ _ c.chunk.ensures (quotient_is c.shift.ensures c.args.hi c.high-last.ensures) c.if-last-chunk.false _ c.any_entry-r.ensures (sym c.is_no.ensures ∙ c.if-not-is_no.true) ∙ l.invariant
-
-pub overflow_add-i : goal.overflow_add-i
-overflow_add-i c = omega (arith, c.loop-i-test, c.requires.1)
-
-pub loop-i-smaller : goal.loop-i-smaller
-loop-i-smaller c = omega (arith, c.loop-i-test)
+pub returns-then-branch : goal.returns-then-branch
+returns-then-branch c =
+    let a = c.args in
+    let l = c.loop-i in
+    let q = quotient_is c.shift.ensures a.hi c.high-last.ensures in
+    run_turn (mem a.pages.now a.rows.now a.blocks.now a.table.now) a.lo a.hi l.i a.n c.loop-i-test.true _ _ c.chunk.ensures q c.if-last-chunk.false (Ok true) (rw c.if-branch.true at c.in_ok-any_entry.ensures) ∙ l.invariant
 
 pub loop-i-preserved : goal.loop-i-preserved
 loop-i-preserved c =
-    let l = c.loop-i in run_next ((mem c.args.pages.now c.args.rows.now c.args.blocks.now c.args.table.now)) c.args.lo c.args.hi l.i c.args.n c.loop-i-test.true _ _ c.chunk.ensures (quotient_is c.shift.ensures c.args.hi c.high-last.ensures) c.if-last-chunk.false _ c.any_entry-r.ensures (sym c.is_no.ensures ∙ c.if-not-is_no.false) ∙ l.invariant
+    let a = c.args in
+    let l = c.loop-i in
+    let q = quotient_is c.shift.ensures a.hi c.high-last.ensures in
+    run_turn (mem a.pages.now a.rows.now a.blocks.now a.table.now) a.lo a.hi l.i a.n c.loop-i-test.true _ _ c.chunk.ensures q c.if-last-chunk.false (Ok false) (rw c.if-branch.false at c.in_ok-any_entry.ensures) ∙ l.invariant
 
 pub returns : goal.returns
 returns c =
-    let l = c.loop-i in run_end ((mem c.args.pages.now c.args.rows.now c.args.blocks.now c.args.table.now)) c.args.lo c.args.hi l.i c.args.n c.loop-i-test.false ∙ l.invariant
+    let a = c.args in
+    let l = c.loop-i in
+    run_end (mem a.pages.now a.rows.now a.blocks.now a.table.now) a.lo a.hi l.i a.n c.loop-i-test.false ∙ l.invariant

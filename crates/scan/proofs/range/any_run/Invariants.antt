@@ -7,6 +7,3 @@ use Rattle.scan.proofs.range.any_run.Given as goal
 
 abbrev pub invariant-loop-i : goal.invariant-loop-i
 invariant-loop-i l = let x = mem l.pages l.rows l.blocks l.table in any_run x l.lo l.hi (l.n - l.i) l.i ≡ any_run x l.lo l.hi (l.n - l.e) l.e
-
-abbrev pub decreases-loop-i : goal.decreases-loop-i
-decreases-loop-i l = l.n - l.i

@@ -1,8 +1,0 @@
--- The run of page owners, from the word of the header on. Assumes nothing.
-use Rattle.layout_walk.proofs.Free.{free_from}
-use Rattle.layout_walk.proofs.owners.free_page.Goals as goal
-
-pub returns : goal.returns
-returns c =
-    let a = c.args in
-    free_from a.table.now _ _ c.page_owners_at.ensures _ _ _ a.h.p c.pages_from.ensures c.first_free.ensures

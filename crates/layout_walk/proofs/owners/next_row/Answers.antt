@@ -1,7 +1,0 @@
--- The run of row owners, from `next` on. Assumes nothing.
-use Rattle.layout_walk.proofs.Free.{free_from}
-use mathlib.Core.Path.{refl}
-use Rattle.layout_walk.proofs.owners.next_row.Goals as goal
-
-pub returns : goal.returns
-returns c = let a = c.args in free_from a.table.now _ _ c.row_owners_at.ensures _ _ a.next a.h.r refl c.first_free.ensures

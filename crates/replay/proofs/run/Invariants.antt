@@ -1,5 +1,0 @@
--- Turns fall. Assumes nothing.
-use Rattle.replay.proofs.run.Given as goal
-
-abbrev pub decreases-loop-turns : goal.decreases-loop-turns
-decreases-loop-turns l = l.turns
