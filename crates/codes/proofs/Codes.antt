@@ -1,8 +1,9 @@
 -- A code loses nothing: each kind of answer can be read back from it. Assumes nothing.
 use Prim.Native.Nat.{ℕ}
 use mathlib.Core.Path.{◌≡◌, refl, sym, ap, ap₂, ◌∙◌, subst}
-use mathlib.Core.Bool.{Bool, false, cond}
+use mathlib.Core.Bool.{Bool, true, false, cond}
 use lib.Dec.{eqb}
+use borrow.Author.Tests.{eqb-true}
 use lib.IntN.{ℤ, pos}
 use mir.Syntax.{w64}
 use mir.Val.{SFits, of_z, to_z}
@@ -27,7 +28,7 @@ use Rattle.std.specs.Prelude.{Err, None, Ok, Option, Some}
 
 -- ---- reading a code: a refusal, or what the other fields say
 
--- the refusal of a number, if it is one
+-- the refusal of a number: 0 alone is none. No answer has one past the table (numbered, ties); it would read as the last, and not as accepted.
 abbrev pub refusal_of : ℕ → Option Refusal
 refusal_of n =
     cond (eqb n 1) (Some OutsideSizes)
@@ -41,8 +42,28 @@ refusal_of n =
     (cond (eqb n 9) (Some NotPrepared)
     (cond (eqb n 10) (Some SizesDiffer)
     (cond (eqb n 11) (Some NoRoom)
-    (cond (eqb n 12) (Some NoPartition)
-    None)))))))))))
+    (cond (eqb n 0) None
+    (Some NoPartition))))))))))))
+
+pub accepted_zero : (n : ℕ) → refusal_of n ≡ None → n ≡ 0
+accepted_zero n e = go (eqb n 1) (eqb n 2) (eqb n 3) (eqb n 4) (eqb n 5) (eqb n 6) (eqb n 7) (eqb n 8) (eqb n 9) (eqb n 10) (eqb n 11) (eqb n 0) refl e
+  where
+    go : (a b c d f g h i j k l m : Bool) → eqb n 0 ≡ m
+        → cond a (Some OutsideSizes) (cond b (Some TooShort) (cond c (Some NotLaidOut) (cond d (Some IsRanked) (cond f (Some IsOpen) (cond g (Some OverflowFull)
+        (cond h (Some RowsFull) (cond i (Some PagesFull) (cond j (Some NotPrepared) (cond k (Some SizesDiffer) (cond l (Some NoRoom) (cond m None (Some NoPartition)))))))))))) ≡ None → n ≡ 0
+    go true b c d f g h i j k l m p q = absurd cc
+    go false true c d f g h i j k l m p q = absurd cc
+    go false false true d f g h i j k l m p q = absurd cc
+    go false false false true f g h i j k l m p q = absurd cc
+    go false false false false true g h i j k l m p q = absurd cc
+    go false false false false false true h i j k l m p q = absurd cc
+    go false false false false false false true i j k l m p q = absurd cc
+    go false false false false false false false true j k l m p q = absurd cc
+    go false false false false false false false false true k l m p q = absurd cc
+    go false false false false false false false false false true l m p q = absurd cc
+    go false false false false false false false false false false true m p q = absurd cc
+    go false false false false false false false false false false false true p q = eqb-true n 0 p
+    go false false false false false false false false false false false false p q = absurd cc
 
 -- 0 is no refusal
 abbrev pub or_refused : {A : Type 0} → Option Refusal → (Refusal → A) → A → A

@@ -114,6 +114,9 @@ module _ (x : Mem) (slots : ℕ) (bs : List ℤ) where
   pub plan_refused : (c : Refusal) → (plan_by x slots bs).answer ≡ Err c → (plan_by x slots bs).bounds ≡ bs
   plan_refused c = plan_ways (λ (k : Cut). k.answer ≡ Err c → k.bounds ≡ bs) (λ d e. refl) (λ l e. absurd cc)
 
+  pub plan_length : length (plan_by x slots bs).bounds ≡ length bs
+  plan_length = plan_ways (λ (k : Cut). length k.bounds ≡ length bs) (λ d. refl) (λ l. bounds_length n)
+
   -- spare boundaries stay
   pub plan_spare : (k : ℕ) → n ≤ k → get_or (plan_by x slots bs).bounds k (pos 0) ≡ get_or bs k (pos 0)
   plan_spare k l = plan_ways (λ (c : Cut). get_or c.bounds k (pos 0) ≡ get_or bs k (pos 0)) (λ d. refl) (λ m. bounds_past n k l)

@@ -1,11 +1,13 @@
 -- Loops that write: what a turn stores, and what stands there at the end. Assumes nothing.
 use mathlib.Core.Path.{◌≡◌, refl, sym, ap, ap₂, ◌∙◌}
-use mathlib.Core.List.{List, [], ◌∷◌}
+use mathlib.Core.List.{List, [], ◌∷◌, ◌++◌, append-nil}
 use Prim.Native.Nat.{ℕ, zero, suc, ◌+◌, ◌*◌, ◌/◌, ◌%◌, ◌^◌, ◌≤◌, ◌<◌}
+use native.Mathlib.Nat.{zero-add}
 use native.Mathlib.Numerals.{add-one}
 use native.Mathlib.Omega.{arith}
 use lib.Bits.{bit_or}
-use lib.ListN.{length, get_or, set, take}
+use lib.ListN.{length, get_or, set, take, drop_of_length-le}
+use lib.Seq.{paste, paste-suc}
 use Rattle.dense.specs.Bits.{or_words, with_bit, with_row}
 use Rattle.std.proofs.lemmas.Nat.{one_shl}
 
@@ -34,6 +36,17 @@ or_all [] s i l = refl
 or_all (x ∷ d) s zero l = absurd (omega arith)
 or_all (x ∷ d) [] (suc i) l = refl
 or_all (x ∷ d) (y ∷ s) (suc i) l = ap (λ (r : List ℕ). bit_or x y ∷ r) (or_all d s i (omega arith))
+
+-- ---- a copy
+
+pub copy_more : (d s w : List ℕ) (i : ℕ) → i < length d → i < length s → w ≡ paste d 0 s i → set w i (get_or s i 0) ≡ paste d 0 s (i + 1)
+copy_more d s w i l h e =
+    ap (λ (z : List ℕ). set z i (get_or s i 0)) e
+    ∙ (ap (λ (k : ℕ). set (paste d 0 s i) k (get_or s i 0)) (sym (zero-add i))
+    ∙ (paste-suc d 0 s i 0 (omega arith) h ∙ ap (paste d 0 s) (sym (add-one i))))
+
+pub copy_all : (d s : List ℕ) (i : ℕ) → length d ≤ i → paste d 0 s i ≡ take i s
+copy_all d s i l = ap (λ (r : List ℕ). take i s ++ r) (drop_of_length-le d {i = 0 + i} (omega arith)) ∙ append-nil (take i s)
 
 -- ---- a row
 

@@ -24,7 +24,7 @@ use Rattle.layout_laws.proofs.Walked.{laid_walked}
 use Rattle.document.specs.declared.sizes.Sizes.{Sizes}
 use Rattle.layout.specs.declared.place.Place.{Place}
 use Rattle.layout.specs.declared.place.Place.TheVariants.{Absent, Sparse, Dense}
-use Rattle.fullcheck.specs.Check.{offset_is, list_is, list_at, row_is, free_row_is, free_page_is, size_of_entry, prefix_is, total_is, block_is, page_blocks, rows_are, ranks_are, rest_is, checked}
+use Rattle.fullcheck.specs.Check.{WalkShown, BlocksShown, offset_is, list_is, list_at, row_is, free_row_is, free_page_is, size_of_entry, prefix_is, total_is, block_is, page_blocks, rows_are, ranks_are, rest_is, checked}
 use Rattle.std.specs.Prelude.{Ok}
 
 -- ---- rows
@@ -147,3 +147,14 @@ module _ (x : Mem) (a : Bool) (p : a ≡ walked x) where
     pub all_told : (b : Bool) → b ≡ rest_is h x → b ≡ checked x
     unfolding checked
     all_told b q = q ∙ (ap (λ (g : Sizes). rest_is g x) e ∙ ap (λ (b : Bool). b && rest_is (head x) x) (sym y ∙ p))
+
+-- ---- the rest, by slice
+
+module _ (x : Mem) (h : Sizes) where
+  pub sound_of : Walked x h → WalkShown h x.table
+  sound_of w = record { sizes = w.sizes; in_table = w.room.in_table; over_fits = w.over_fits; places = w.places }
+
+  -- the test of the block counts, asked first
+  module _ {f : Bool} (t : f ≡ all_to (page_blocks h x.pages x.blocks (ranked_at x.table)) h.p) where
+    pub blocks_shown : Walked x h → f ≡ true → BlocksShown h x.pages x.blocks (ranked_at x.table)
+    blocks_shown w y = record { in_pages = w.room.in_pages; in_blocks = w.room.in_blocks; right = sym t ∙ y }

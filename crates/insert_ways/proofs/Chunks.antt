@@ -38,7 +38,7 @@ module _ (x : Mem) (c o w : ℕ) (e : Ok w ≡ word_in x.table c) where
   unfolding insert_plan
   put_place p i = ap (acted x c o) (by_place x c (into_place x c o) w e p i)
 
-  prepared_place : (p : Place) → Names x w p → acted x c o (into_dense x o p) ≡ acted x c o (prepared_plan x c o)
+  pub prepared_place : (p : Place) → Names x w p → acted x c o (into_dense x o p) ≡ acted x c o (prepared_plan x c o)
   unfolding prepared_plan
   prepared_place p i = ap (acted x c o) (by_place x c (into_dense x o) w e p i)
 

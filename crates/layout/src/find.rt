@@ -70,15 +70,24 @@ pub fn entries_in(table: &[u64], d: u64) -> bool
     (16 + 2 * d + 3 * n <= table.len() as u64) & (n <= head::overflow(table))
 }
 
-// The word of a chunk past the d direct entries.
+// The word of a chunk past the d direct entries. The tests of `entries_in` stand here and in `overflow_seat`, since a lookup that calls it is not compiled in (docs/DECISIONS.md).
 pub fn overflow_word(table: &[u64], d: u64, c: u64) -> Result<u64, Refusal>
     ensures { result ≡ overflow_word table.now d c }
 {
-    if !entries_in(table, d) {
+    let n = head::over_count(table);
+    if 262144 < d {
         return Err(Refusal::NotLaidOut);
     }
-    let n = head::over_count(table);
+    if 65536 < n {
+        return Err(Refusal::NotLaidOut);
+    }
     let a = 16 + 2 * d;
+    if (table.len() as u64) < a + 3 * n {
+        return Err(Refusal::NotLaidOut);
+    }
+    if head::overflow(table) < n {
+        return Err(Refusal::NotLaidOut);
+    }
     Ok(over_word(table, a, n, c, over_place(table, a, n, c)))
 }
 

@@ -21,11 +21,20 @@ pub fn over_seat(table: &[u64], a: u64, n: u64, c: u64, k: u64) -> Result<(u64, 
 pub fn overflow_seat(table: &[u64], d: u64, c: u64) -> Result<(u64, u64), Refusal>
     ensures { result ≡ overflow_seat table.now d c }
 {
-    if !find::entries_in(table, d) {
+    let n = head::over_count(table);
+    if 262144 < d {
         return Err(Refusal::NotLaidOut);
     }
-    let n = head::over_count(table);
+    if 65536 < n {
+        return Err(Refusal::NotLaidOut);
+    }
     let a = 16 + 2 * d;
+    if (table.len() as u64) < a + 3 * n {
+        return Err(Refusal::NotLaidOut);
+    }
+    if head::overflow(table) < n {
+        return Err(Refusal::NotLaidOut);
+    }
     over_seat(table, a, n, c, find::over_place(table, a, n, c))
 }
 

@@ -11,6 +11,12 @@ use lib.Seq.{take-nil}
 use Rattle.lists.specs.Lists.{answered}
 
 module _ {A : Type 0} (f : ℤ → A) where
+  pub answered_length : (zs : List ℤ) (ns : List A) → length (answered f zs ns) ≡ length ns
+  unfolding answered
+  answered_length [] ns = refl
+  answered_length (z ∷ zs) [] = refl
+  answered_length (z ∷ zs) (n ∷ ns) = ap suc (answered_length zs ns)
+
   pub answered_none : (zs : List ℤ) (ns : List A) → answered f (take 0 zs) ns ≡ ns
   unfolding answered
   answered_none zs ns = refl

@@ -22,10 +22,11 @@ use Rattle.layout.specs.Seat.{direct_seat, overflow_seat, seat_in}
 use Rattle.layout.specs.Part.{Within}
 use Rattle.layout.specs.Meaning.{ranked}
 use Rattle.layout.specs.Tests.{Walked}
+use Rattle.layout.specs.Follows.{Owned}
 use Rattle.layout.specs.declared.place.Place.{Place}
 use Rattle.layout_laws.specs.Chunks.{first_rank}
 use Rattle.layout_laws.proofs.Entries.{walked_ordered, prefix_direct, word_of_direct}
-use Rattle.layout_laws.proofs.Short.{word_in_is, spot_is}
+use Rattle.layout_laws.proofs.Short.{word_in_is, owned_of, spot_is}
 use Rattle.calls.specs.Reading.{spot_by, spot_if, has_at, has_split, get_by}
 use Rattle.calls.proofs.Shifts.{chunk_small}
 use Rattle.calls.proofs.Spots.{within_spot}
@@ -67,6 +68,9 @@ module _ {x : Mem} {h : Sizes} (j : Judged x h) where
     entry_place : place_at h x.table c ≡ place_of (head x) x.table c
     entry_place =
         ap (λ (k : Sizes). place_at k x.table c) j.sizes ∙ ap decoded (sym (word_of_direct (head x) x.table (walked_ordered w) c below_direct))
+
+    pub entry_owned : (q : Place) → q ≡ place_at h x.table c → Owned h x.table c q
+    entry_owned q e = subst (λ (k : Sizes). Owned k x.table c q) (sym j.sizes) (subst (Owned (head x) x.table c) (sym (e ∙ entry_place)) (owned_of w c))
 
     pub entry_spot : (q : Place) → q ≡ place_at h x.table c → spot_on h q ≡ spot_by x (word_of (head x) x.table c)
     entry_spot q e = ap₂ spot_on j.sizes (e ∙ entry_place) ∙ sym (spot_is w c)

@@ -78,7 +78,8 @@ pub fn got(pages: &[u64], rows: &[u32], blocks: &[u32], table: &[u64], h: Sizes,
 
 // ---- the rank of an id
 
-// Offset o of a chunk below D: the members of the chunks before, and those within.
+// Offset o of a chunk below D: the members of the chunks before, and those within. Compiled into both loops, as `rank_in` is: else each id of `rank_all` costs a call.
+#[inline(always)]
 fn placed(
     pages: &[u64],
     rows: &[u32],

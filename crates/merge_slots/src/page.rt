@@ -28,7 +28,7 @@ pub fn copy(pages: &mut [u64], h: Sizes, p: u64, spages: &[u64], g: Sizes, i: u6
 {
     let b = head::page_at(h, p) as usize;
     let f = b + power::pow2(h.s - 6) as usize;
-    pages[b..f].copy_from_slice(part(spages, g, i));
+    dense::words::copy(&mut pages[b..f], part(spages, g, i));
 }
 
 // Page p gets the members of the source's page i, word by word.

@@ -45,8 +45,8 @@ pub fn copy(rows: &mut [u32], h: Sizes, r: u64, srows: &[u32], g: Sizes, i: u64,
         (copied (row_part g srows.now i) (row_part h rows.old r) k) }
 {
     let a = head::row_at(h, r) as usize;
-    let n = k as usize;
-    rows[a..a + n].copy_from_slice(&part(srows, g, i)[..n]);
+    let e = a + h.m as usize;
+    sparse::copy(part(srows, g, i), &mut rows[a..e], k as usize);
 }
 
 // Row r's l offsets become the union with the first k of the source's row i, where a row has room for them. Answers how many they are.

@@ -50,7 +50,7 @@ module _ {z y : Mem} (J : Joinable z y) (h g : Sizes) (eh : h ≡ head z) (eg : 
   }
 
   -- as many as the sizes have
-  entries_few : entries g y.table ≤ 327680
+  pub entries_few : entries g y.table ≤ 327680
   entries_few =
       let a = there.d_high in
       let b = J.there.over_fits in

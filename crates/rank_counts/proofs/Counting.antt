@@ -59,6 +59,10 @@ pub page_counted : (h : Sizes) (pages blocks out words : List ℕ) (p k n : ℕ)
 page_counted h pages blocks out words p k n ew ek en e =
     e ∙ (ap (λ (ws : List ℕ). counted ws blocks k n) ew ∙ (ap₂ (counted (page_part h pages p) blocks) ek en ∙ counted_blocked h pages blocks p (blocks_of h)))
 
+-- a page's members
+pub total_small : (h : Sizes) (z : InRange h) (pages : List ℕ) (p t : ℕ) → t ≡ bits_to (page_part h pages p) (top h) → t ≤ 33554432
+total_small h z pages p t e = let q = powers h.s z.s_low z.s_high in omega (arith, bits_le (page_part h pages p) (top h), q.most)
+
 -- its members, those before its last block and that block's, where v and r are what was read
 module _ (h : Sizes) (z : InRange h) (pages blocks words ws : List ℕ) (told : BlocksCounted h pages blocks) (p k n v r : ℕ) (l : p < h.p) (ew : words ≡ page_part h pages p) (ek : k ≡ p * blocks_of h) (en : n ≡ blocks_of h)
     (ev : v ≡ get_or blocks (k + (n - 1)) 0) (eb : ws ≡ take 8 (drop (8 * (n - 1)) words)) (er : r ≡ bits_to ws 512) where
@@ -71,8 +75,8 @@ module _ (h : Sizes) (z : InRange h) (pages blocks words ws : List ℕ) (told : 
       let b = block_more (page_part h pages p) ws (n - 1) r (eb ∙ ap (λ (xs : List ℕ). take 8 (drop (8 * (n - 1)) xs)) ew) er in
       ap (λ (d : ℕ). d + r) u ∙ (b ∙ ap (bits_to (page_part h pages p)) j)
 
-  pub total_small : v + r ≤ 33554432
-  total_small = let q = powers h.s z.s_low z.s_high in omega (arith, page_total, bits_le (page_part h pages p) (top h), q.most)
+  pub told_small : v + r ≤ 33554432
+  told_small = let q = powers h.s z.s_low z.s_high in omega (arith, page_total, bits_le (page_part h pages p) (top h), q.most)
 
 -- ---- all pages
 

@@ -10,6 +10,7 @@ use exports::{number, read};
 use lines::words;
 use replies::input::Input;
 use replies::memory::Pools;
+use replies::say::Id;
 use replies::told::Told;
 use replies::verb::Verb;
 use replies::{say, verb};
@@ -47,13 +48,13 @@ fn on(
     other: &mut Pools,
 ) -> io::Result<()> {
     match verb {
-        Verb::Change(v) => writeln!(out, "{}", call::change(v, line, set)),
-        Verb::Ask(v) => writeln!(out, "{}", call::ask(v, line, set)),
-        Verb::Join(v) => writeln!(out, "{}", call::join(v, set, other)),
+        Verb::Change(v) => write!(out, "{}", call::change(v, line, set)),
+        Verb::Ask(v) => write!(out, "{}", call::ask(v, line, set)),
+        Verb::Join(v) => write!(out, "{}", call::join(v, set, other)),
         Verb::Cut(v) => partition::call(out, v, line, &set.bounds),
         Verb::Check => writeln!(out, "{}", check(set)),
         Verb::Dump => set.dump(out),
-        Verb::Poke => writeln!(out, "{}", set.poke(line)),
+        Verb::Poke => write!(out, "{}", set.poke(line)),
         Verb::Plan => partition::plan(out, line, set),
         Verb::Iter => many::iter(out, line, set),
         Verb::Mark => marks::mark(out, line, set),
@@ -63,14 +64,14 @@ fn on(
         Verb::RankIfAll => many::rank_if(out, line, set),
         Verb::InsertAll => many::insert(out, line, set),
         Verb::Slots => writeln!(out, "{}", slots(line)),
-        Verb::Bounded => writeln!(out, "{}", bounded(line)),
+        Verb::Bounded => writeln!(out, "{}", Id(bounded(line))),
     }
 }
 
 // A line. Where it names a set, that is word 1.
 fn answer(out: &mut Stdout, line: &[u8], first: &mut Pools, second: &mut Pools) -> io::Result<()> {
     let Some(verb) = verb::of(line) else {
-        return writeln!(out, "{}", Told::NoCall);
+        return write!(out, "{}", Told::NoCall);
     };
     if words::number_or(line, 1, 0) == 0 {
         on(out, verb, line, first, second)

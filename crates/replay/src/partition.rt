@@ -29,7 +29,7 @@ pub fn call(out: &mut Stdout, v: Cut, line: &[u8], bounds: &[i64]) -> io::Result
     let room = verb::up_to(line, 5, bounds.len());
     let i = partition::bp_ids(total, slots, partitions, &bounds[..room], k);
     if i.refusal != 0 {
-        return writeln!(out, "{}", Told::Refused(i.refusal));
+        return write!(out, "{}", Told::Refused(i.refusal));
     }
     let min = words::id_or(line, 7, 0);
     let max = words::id_or(line, 8, 0);

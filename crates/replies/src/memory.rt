@@ -1,4 +1,5 @@
 // A set's memory: made by hand by `poke`, seen by `dump`.
+use crate::say::Id;
 use crate::told::Told;
 use lines::words;
 use std::fmt::Display;
@@ -42,6 +43,17 @@ fn elements<T: Copy + Default + PartialEq + Display>(
     Ok(before)
 }
 
+// The same of boundaries, which are ids.
+fn ids(out: &mut Stdout, mut before: &'static str, name: char, pool: &[i64]) -> io::Result<()> {
+    for (i, z) in pool.iter().enumerate() {
+        if *z != 0 {
+            write!(out, "{before}{name}{i}={}", Id(*z))?;
+            before = " ";
+        }
+    }
+    Ok(())
+}
+
 impl Pools {
     // All zero.
     pub fn new() -> Pools {
@@ -73,7 +85,7 @@ impl Pools {
         let before = elements(out, before, 'r', &self.rows)?;
         let before = elements(out, before, 'b', &self.blocks)?;
         let before = elements(out, before, 't', &self.table)?;
-        elements(out, before, 'c', &self.bounds)?;
+        ids(out, before, 'c', &self.bounds)?;
         writeln!(out)
     }
 }

@@ -3,14 +3,28 @@ use crate::told::Told;
 use codes::answer::DoneAnswer;
 use codes::cut::{IntervalAnswer, PlanAnswer, RanksAnswer};
 use document::answer::Listing;
+use lines::signs;
 use lists::insert::Inserted;
-use std::io;
 use std::io::{Stdout, Write};
+use std::{fmt, io};
+
+// An id: a sign, and its magnitude.
+#[derive(Clone, Copy, Debug, PartialEq, Eq)]
+pub struct Id(pub i64);
+
+impl fmt::Display for Id {
+    fn fmt<W: fmt::Write>(&self, f: &mut fmt::Formatter<W>) -> fmt::Result {
+        if self.0 < 0 {
+            f.write_str("-")?;
+        }
+        write!(f, "{}", signs::magnitude(self.0))
+    }
+}
 
 // The first n ids of some.
 fn ids(out: &mut Stdout, c: &[i64], n: u64) -> io::Result<()> {
     for z in c.iter().take(n as usize) {
-        write!(out, " {z}")?;
+        write!(out, " {}", Id(*z))?;
     }
     Ok(())
 }
@@ -22,7 +36,7 @@ pub fn numbers<T: Copy + Into<u64>>(
     answers: &[T],
 ) -> io::Result<()> {
     if a.refusal != 0 {
-        return writeln!(out, "{}", Told::Refused(a.refusal));
+        return write!(out, "{}", Told::Refused(a.refusal));
     }
     let mut before = "";
     for x in answers {
@@ -48,9 +62,9 @@ pub fn inserted(out: &mut Stdout, a: Inserted) -> io::Result<()> {
 // A record of iteration: count, end mark, next start, ids.
 pub fn listing(out: &mut Stdout, a: Listing) -> io::Result<()> {
     if a.refusal != 0 {
-        return writeln!(out, "{}", Told::Refused(a.refusal));
+        return write!(out, "{}", Told::Refused(a.refusal));
     }
-    write!(out, "{} {} {}", a.count, a.end, a.next)?;
+    write!(out, "{} {} {}", a.count, a.end, Id(a.next))?;
     ids(out, &a.ids, a.count)?;
     writeln!(out)
 }
@@ -58,7 +72,7 @@ pub fn listing(out: &mut Stdout, a: Listing) -> io::Result<()> {
 // A record, and its boundaries, one less than the partitions.
 pub fn plan(out: &mut Stdout, a: PlanAnswer, c: &[i64]) -> io::Result<()> {
     if a.refusal != 0 {
-        return writeln!(out, "{}", Told::Refused(a.refusal));
+        return write!(out, "{}", Told::Refused(a.refusal));
     }
     write!(out, "{} {} {}", a.total, a.slots, a.partitions)?;
     ids(out, c, a.partitions.saturating_sub(1))?;
@@ -70,10 +84,10 @@ fn span(out: &mut Stdout, i: IntervalAnswer) -> io::Result<()> {
     if i.low == i64::MIN {
         write!(out, "min")?;
     } else {
-        write!(out, "{}", i.low)?;
+        write!(out, "{}", Id(i.low))?;
     }
     if i.has_high {
-        write!(out, " {}", i.high)
+        write!(out, " {}", Id(i.high))
     } else {
         write!(out, " end")
     }

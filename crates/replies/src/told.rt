@@ -1,4 +1,4 @@
-// What a call answers, where that is one word or number.
+// What a call answers, where that is one word or number, as its line: a word goes out with its newline, in one write.
 use codes::answer::{DoneAnswer, NumberAnswer, OptionalAnswer, TruthAnswer};
 use std::fmt;
 
@@ -52,12 +52,12 @@ impl From<OptionalAnswer> for Told {
 impl fmt::Display for Told {
     fn fmt<W: fmt::Write>(&self, f: &mut fmt::Formatter<W>) -> fmt::Result {
         match *self {
-            Told::Done => f.write_str("ok"),
-            Told::Truth(yes) => write!(f, "{yes}"),
-            Told::Value(n) => write!(f, "{n}"),
-            Told::Nothing => f.write_str("none"),
-            Told::Refused(n) => write!(f, "refused {n}"),
-            Told::NoCall => f.write_str("bad"),
+            Told::Done => f.write_str("ok\n"),
+            Told::Truth(yes) => writeln!(f, "{yes}"),
+            Told::Value(n) => writeln!(f, "{n}"),
+            Told::Nothing => f.write_str("none\n"),
+            Told::Refused(n) => writeln!(f, "refused {n}"),
+            Told::NoCall => f.write_str("bad\n"),
         }
     }
 }

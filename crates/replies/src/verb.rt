@@ -88,55 +88,56 @@ enum Kind {
 // One to eight ids.
 const IDS: &[Kind] = &[Set, Id, More, More, More, More, More, More, More];
 
-// The verbs by name, and the kinds of the words that follow.
-const VERBS: [(&[u8], Verb, &[Kind]); 35] = [
-    (b"set", Verb::Change(Change::Set), &[Set, Id]),
-    (b"prepare", Verb::Change(Change::Prepare), &[Set, Id]),
-    (b"rankup", Verb::Change(Change::RankUp), &[Set]),
-    (b"open", Verb::Change(Change::Open), &[Set]),
+// The verbs' names: which of them a line's first word is, is by the contract of `words::named`.
+const NAMES: &[u8] = b"set prepare rankup open setup poke new put get empty \
+    has chunk rank rankif len chunks total check dump plan \
+    part in meets slots bounded any iter from merge mark \
+    meet getall rankall rankifall insertall";
+
+// The verbs, in the order of their names, and the kinds of the words that follow.
+const VERBS: [(Verb, &[Kind]); 35] = [
+    (Verb::Change(Change::Set), &[Set, Id]),
+    (Verb::Change(Change::Prepare), &[Set, Id]),
+    (Verb::Change(Change::RankUp), &[Set]),
+    (Verb::Change(Change::Open), &[Set]),
     (
-        b"setup",
         Verb::Change(Change::SetUp),
         &[Set, Number, Number, Number, Number, Number, Number],
     ),
-    (b"poke", Verb::Poke, &[Set, Number, Number, Number]),
-    (b"new", Verb::Change(Change::New), &[Set, Id]),
-    (b"put", Verb::Change(Change::Put), &[Set, Id]),
-    (b"get", Verb::Ask(Ask::Get), &[Set, Id]),
-    (b"empty", Verb::Ask(Ask::Empty), &[Set]),
-    (b"has", Verb::Ask(Ask::Has), &[Set]),
-    (b"chunk", Verb::Ask(Ask::Chunk), &[Set, Id]),
-    (b"rank", Verb::Ask(Ask::Rank), &[Set, Id]),
-    (b"rankif", Verb::Ask(Ask::RankIf), &[Set, Id]),
-    (b"len", Verb::Ask(Ask::Len), &[Set]),
-    (b"chunks", Verb::Ask(Ask::Chunks), &[Set]),
-    (b"total", Verb::Ask(Ask::Total), &[Set]),
-    (b"check", Verb::Check, &[Set]),
-    (b"dump", Verb::Dump, &[Set]),
-    (b"plan", Verb::Plan, &[Set, Number, Room]),
+    (Verb::Poke, &[Set, Number, Number, Number]),
+    (Verb::Change(Change::New), &[Set, Id]),
+    (Verb::Change(Change::Put), &[Set, Id]),
+    (Verb::Ask(Ask::Get), &[Set, Id]),
+    (Verb::Ask(Ask::Empty), &[Set]),
+    (Verb::Ask(Ask::Has), &[Set]),
+    (Verb::Ask(Ask::Chunk), &[Set, Id]),
+    (Verb::Ask(Ask::Rank), &[Set, Id]),
+    (Verb::Ask(Ask::RankIf), &[Set, Id]),
+    (Verb::Ask(Ask::Len), &[Set]),
+    (Verb::Ask(Ask::Chunks), &[Set]),
+    (Verb::Ask(Ask::Total), &[Set]),
+    (Verb::Check, &[Set]),
+    (Verb::Dump, &[Set]),
+    (Verb::Plan, &[Set, Number, Room]),
     (
-        b"part",
         Verb::Cut(Cut::Part),
         &[Set, Number, Number, Number, Room, Number],
     ),
     (
-        b"in",
         Verb::Cut(Cut::In),
         &[Set, Number, Number, Number, Room, Number, Id],
     ),
     (
-        b"meets",
         Verb::Cut(Cut::Meets),
         &[Set, Number, Number, Number, Room, Number, Id, Id],
     ),
-    (b"slots", Verb::Slots, &[Number]),
-    (b"bounded", Verb::Bounded, &[Id, Number, Number]),
-    (b"any", Verb::Ask(Ask::Any), &[Set, Id, Id]),
-    (b"iter", Verb::Iter, &[Set, Id]),
-    (b"from", Verb::Join(Join::From), &[Set, Other]),
-    (b"merge", Verb::Join(Join::Merge), &[Set, Other]),
+    (Verb::Slots, &[Number]),
+    (Verb::Bounded, &[Id, Number, Number]),
+    (Verb::Ask(Ask::Any), &[Set, Id, Id]),
+    (Verb::Iter, &[Set, Id]),
+    (Verb::Join(Join::From), &[Set, Other]),
+    (Verb::Join(Join::Merge), &[Set, Other]),
     (
-        b"mark",
         Verb::Mark,
         &[
             Set, Id, Id, More, High, More, High, More, High, More, High, More, High, More, High,
@@ -144,17 +145,16 @@ const VERBS: [(&[u8], Verb, &[Kind]); 35] = [
         ],
     ),
     (
-        b"meet",
         Verb::Meet,
         &[
             Set, Number, Number, Number, Room, Number, Id, Id, More, High, More, High, More, High,
             More, High, More, High, More, High, More, High,
         ],
     ),
-    (b"getall", Verb::GetAll, IDS),
-    (b"rankall", Verb::RankAll, IDS),
-    (b"rankifall", Verb::RankIfAll, IDS),
-    (b"insertall", Verb::InsertAll, IDS),
+    (Verb::GetAll, IDS),
+    (Verb::RankAll, IDS),
+    (Verb::RankIfAll, IDS),
+    (Verb::InsertAll, IDS),
 ];
 
 impl Kind {
@@ -175,8 +175,7 @@ impl Kind {
 
 // A line's verb, where the words after it are of its kinds, and no more.
 pub fn of(line: &[u8]) -> Option<Verb> {
-    let name = words::word(line, 0);
-    let (_, verb, kinds) = VERBS.iter().find(|row| row.0 == name)?;
+    let (verb, kinds) = VERBS.get(words::named(line, 0, NAMES) as usize)?;
     let fits = words::count(line) <= kinds.len() as u64 + 1
         && kinds.iter().zip(1..).all(|(kind, j)| kind.fits(line, j));
     fits.then_some(*verb)

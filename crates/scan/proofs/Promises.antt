@@ -20,7 +20,7 @@ use Rattle.contracts.proofs.Readings.{answers}
 use Rattle.scan.proofs.Ranges.{any_refused, any_below, any_empty, any_some}
 
 module _ (x : Mem) (lo hi : ℤ) where
-  any_in_range : {r : Truth} → r ≡ any_by x lo hi → Answers x (document.range_test lo hi) (document.whether r)
+  pub any_in_range : {r : Truth} → r ≡ any_by x lo hi → Answers x (document.range_test lo hi) (document.whether r)
   any_in_range e = answers x (document.range_test lo hi) (ap document.whether e)
 
   pub any_by_law : (r : Truth) → Answers x (document.range_test lo hi) (document.whether r) → r ≡ any_by x lo hi

@@ -67,11 +67,19 @@ module _ (row : List ℕ) (x : ℕ) where
     on_kept : (p : ℕ) → kept row x lo n ≡ p → lower_in (n - n / 2) row x p (n - n / 2) ≡ lower_in n row x lo n
     on_kept p e = ap (λ (k : ℕ). lower_in (n - n / 2) row x k (n - n / 2)) (sym e) ∙ kept_same lo n some
 
-    pub upper_half : get_or row (lo + n / 2) 0 < x → lower_in (n - n / 2) row x (lo + n / 2) (n - n / 2) ≡ lower_in n row x lo n
-    upper_half l = on_kept (lo + n / 2) (ap (λ (b : Bool). cond b (lo + n / 2) lo) (lt-ltb (get_or row (lo + n / 2) 0) x l))
+    pub upper_same : get_or row (lo + n / 2) 0 < x → lower_in (n - n / 2) row x (lo + n / 2) (n - n / 2) ≡ lower_in n row x lo n
+    upper_same l = on_kept (lo + n / 2) (ap (λ (b : Bool). cond b (lo + n / 2) lo) (lt-ltb (get_or row (lo + n / 2) 0) x l))
 
-    pub lower_half : x ≤ get_or row (lo + n / 2) 0 → lower_in (n - n / 2) row x lo (n - n / 2) ≡ lower_in n row x lo n
-    lower_half l = on_kept lo (ap (λ (b : Bool). cond b (lo + n / 2) lo) (le-ltb (get_or row (lo + n / 2) 0) x l))
+    pub lower_same : x ≤ get_or row (lo + n / 2) 0 → lower_in (n - n / 2) row x lo (n - n / 2) ≡ lower_in n row x lo n
+    lower_same l = on_kept lo (ap (λ (b : Bool). cond b (lo + n / 2) lo) (le-ltb (get_or row (lo + n / 2) 0) x l))
+
+  -- and it lies inside
+  module _ (lo n p : ℕ) (some : 1 ≤ n) where
+    pub upper_half : get_or row (lo + n / 2) 0 < x → p ≡ lo + n / 2 → (p + (n - n / 2) ≤ lo + n) × (lower_in (n - n / 2) row x p (n - n / 2) ≡ lower_in n row x lo n)
+    upper_half l e = (omega arith, ap (λ (k : ℕ). lower_in (n - n / 2) row x k (n - n / 2)) e ∙ upper_same lo n some l)
+
+    pub lower_half : x ≤ get_or row (lo + n / 2) 0 → p ≡ lo → (p + (n - n / 2) ≤ lo + n) × (lower_in (n - n / 2) row x p (n - n / 2) ≡ lower_in n row x lo n)
+    lower_half l e = (omega arith, ap (λ (k : ℕ). lower_in (n - n / 2) row x k (n - n / 2)) e ∙ lower_same lo n some l)
 
 -- ---- the whole search
 

@@ -1,5 +1,5 @@
 -- What one insertion does to a row's members, counts and rising. Assumes nothing.
-use mathlib.Core.Path.{◌≡◌, sym, ap, subst, ◌∙◌}
+use mathlib.Core.Path.{◌≡◌, refl, sym, ap, subst, ◌∙◌}
 use mathlib.Core.Logic.{◌⊎◌, inl, inr}
 use mathlib.Core.Bool.{Bool, true, false, ◌||◌}
 use mathlib.Core.List.{List}
@@ -14,10 +14,11 @@ use Rattle.sparse.specs.Row.{Row, row_of, member, below_of, Rising}
 use Rattle.sparse.specs.Edit.{inserted_at}
 use Rattle.sparse.specs.Search.{search_in}
 use Rattle.std.specs.Prelude.{Err}
-use Rattle.sparse.proofs.Rows.{some_or, member_at, below_before, below_after, count_member}
+use Rattle.sparse.proofs.Rows.{some_or, member_at, member_small, below_before, below_after, count_member}
 use Rattle.sparse.proofs.Searches.{search_free, search_free_le}
 use Rattle.std.proofs.lemmas.Bool.{cases_lt}
 use Rattle.sparse.proofs.Edits.{inserted_at_law}
+use borrow.Author.Tests.{eqb-true}
 
 module _ (f g : Row) (k n v : ℕ) (i : Inserted f g k n v) where
   -- a count over the row is one test more
@@ -69,6 +70,17 @@ module _ (f g : Row) (k n v : ℕ) (i : Inserted f g k n v) where
           let s = hi b (omega arith) (omega arith) in
           omega arith
       go (inr c) (inl d) (inr e) (inl m) = both_up a m p d
+
+  -- a bound on the offsets
+  pub small_insert : (s : ℕ) → ((j : ℕ) → j < n → f j < s) → v < s → (j : ℕ) → j < suc n → g j < s
+  small_insert s h l j m = member_small_at (member_insert (g j))
+    where
+      member_small_at : member g (suc n) (g j) ≡ (member f n (g j) || eqb v (g j)) → g j < s
+      member_small_at e = go (member f n (g j)) refl (sym e ∙ member_at g (suc n) j m)
+        where
+          go : (b : Bool) → member f n (g j) ≡ b → (member f n (g j) || eqb v (g j)) ≡ true → g j < s
+          go true p q = member_small f n s (g j) h p
+          go false p q = let d = eqb-true v (g j) (ap (λ (b : Bool). b || eqb v (g j)) (sym p) ∙ q) in omega arith
 
 -- the place that the search gives for a value that is not there
 module _ (f g : Row) (n v : ℕ) (i : Inserted f g (below_of f n v) n v) (up : Rising f n) (new : member f n v ≡ false) where

@@ -31,7 +31,7 @@ size_is : (s : ℕ) → s < 32 → 1 * 2 ^ s % 2 ^ 64 ≡ 2 ^ s
 size_is s l = shl_exact 1 s 64 (lit< tt) (omega arith) ∙ one-mul (2 ^ s)
 
 -- an id of the chunk
-id_lt : (base x s : ℕ) → s < 32 → base + 2 ^ s ≤ 2 ^ 63 → base + x % (1 * 2 ^ s % 2 ^ 64) < 2 ^ 63
+pub id_lt : (base x s : ℕ) → s < 32 → base + 2 ^ s ≤ 2 ^ 63 → base + x % (1 * 2 ^ s % 2 ^ 64) < 2 ^ 63
 id_lt base x s l f = subst (λ (u : ℕ). base + x % u < 2 ^ 63) (sym (size_is s l)) (let m = mod-lt x (pow_pos s) in omega arith)
 
 id_is : (base x s : ℕ) → s < 32 → base + 2 ^ s ≤ 2 ^ 63 → to_z w64 (base + x % (1 * 2 ^ s % 2 ^ 64)) ≡ pos (base + x % 2 ^ s)

@@ -8,7 +8,8 @@ use lib.Dec.{ltb, leb}
 use lib.ListN.{length, get_or, drop, length-drop, drop_of_length-le}
 use lib.Seq.{drop-cons, drop-drop}
 use mir.Val.{bool_byte}
-use borrow.Author.Tests.{lt-ltb, le-ltb, leb-true, leb-false}
+use borrow.Author.Tests.{lt-ltb, le-ltb, leb-true, leb-false, le-leb}
+use Rattle.sums.proofs.Counts.{byte_le}
 use Rattle.sparse.specs.Union.{Merged, left, onto, merged, merged_head, union}
 
 -- ---- equations
@@ -37,6 +38,19 @@ module _ (x : ℕ) (xs : List ℕ) (y : ℕ) (ys : List ℕ) where
 
 abbrev pub passes : ℕ → ℕ → ℕ
 passes x y = bool_byte (leb x y)
+
+-- each list moves on by one at most, and one of them does
+pub record Steps (x y : ℕ) : Type 0 where
+  pub first : passes x y ≤ 1
+  pub second : passes y x ≤ 1
+  pub some : 1 ≤ passes x y + passes y x
+
+pub steps : (x y : ℕ) → Steps x y
+steps x y = record { first = byte_le (leb x y); second = byte_le (leb y x); some = go (leb x y) refl }
+  where
+    go : (b : Bool) → leb x y ≡ b → 1 ≤ passes x y + passes y x
+    go true e = let z : passes x y ≡ 1 = ap bool_byte e in omega arith
+    go false e = let z : passes y x ≡ 1 = ap bool_byte (le-leb y x (let l = leb-false x y e in omega arith)) in omega arith
 
 step_by : (x : ℕ) (xs : List ℕ) (y : ℕ) (ys : List ℕ) (a b : Bool) → leb x y ≡ a → leb y x ≡ b → merged (x ∷ xs) (y ∷ ys) ≡ onto (min x y) (merged (drop (bool_byte a) (x ∷ xs)) (drop (bool_byte b) (y ∷ ys)))
 step_by x xs y ys true true p q = let s = leb-true x y p in let t = leb-true y x q in let m : min x y ≡ x = omega arith in rw m (merged_same x xs y ys (omega arith))

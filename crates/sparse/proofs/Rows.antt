@@ -2,10 +2,13 @@
 use mathlib.Core.Path.{◌≡◌, refl, sym, ap, ◌∙◌}
 use mathlib.Core.Logic.{◌⊎◌, inl, inr, ◌≢◌}
 use mathlib.Core.Bool.{Bool, true, false, ◌||◌}
+use mathlib.Core.List.{List}
 use Prim.Native.Nat.{ℕ, zero, suc, ◌+◌, ◌≤◌, ◌<◌}
 use native.Mathlib.Omega.{arith}
 use Rattle.std.proofs.Math.Bool.{or_comm}
 use lib.Dec.{ltb, eqb}
+use lib.ListN.{get_or, take, drop}
+use lib.Seq.{get_or-take, get_or-drop}
 use mir.Val.{bool_byte}
 use borrow.Author.Tests.{ltb-true, ltb-false, lt-ltb, le-ltb, eqb-true, eq-eqb, ne_eqb}
 use Rattle.sums.specs.Ids.{Ids, count}
@@ -13,6 +16,10 @@ use Rattle.sums.specs.Rules.{Decides}
 use Rattle.sums.proofs.Sums.{last_or}
 use Rattle.sums.proofs.Counts.{count_zero, count_suc, count_ext, count_le, count_mono, count_change, count_full, count_none}
 use Rattle.sparse.specs.Row.{Row, member, below_of, Rising}
+
+-- a row that is a part of a pool
+pub row_part : (pool : List ℕ) (a k j : ℕ) → j < k → get_or (take k (drop a pool)) j 0 ≡ get_or pool (a + j) 0
+row_part pool a k j l = get_or-take k (drop a pool) j 0 l ∙ get_or-drop a pool j 0
 
 -- ---- counts
 
@@ -103,6 +110,10 @@ member_front f n x =
 pub below_le : (f : Row) (len x : ℕ) → below_of f len x ≤ len
 unfolding below_of
 below_le f len x = count_le (λ (j : ℕ). ltb (f j) x) len
+
+pub below_ext : (f g : Row) (len x : ℕ) → ((j : ℕ) → j < len → f j ≡ g j) → below_of f len x ≡ below_of g len x
+unfolding below_of
+below_ext f g len x h = count_ext (λ (j : ℕ). ltb (f j) x) (λ (j : ℕ). ltb (g j) x) len (λ j l. ap (λ (y : ℕ). ltb y x) (h j l))
 
 pub below_all : (f : Row) (len x : ℕ) → ((j : ℕ) → j < len → f j < x) → below_of f len x ≡ len
 unfolding below_of

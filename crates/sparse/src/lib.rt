@@ -18,7 +18,7 @@ struct Left {
 }
 
 // The half that holds the answer, as a choice of two numbers: which one it is can't be foreseen. One place stays as it is.
-#[tactic(auto, using(crate::proofs::Halving::upper_half, crate::proofs::Halving::lower_half))]
+#[tactic(auto, using(crate::proofs::Halving::upper_same, crate::proofs::Halving::lower_same))]
 fn halved(row: &[u32], off: u32, left: Left) -> Left
     requires { (1 ≤ left.n) × (left.lo + left.n ≤ length row.now) }
     ensures { (1 ≤ result.n) × (2 * result.n ≤ left.n + 1) × (result.lo + result.n ≤ left.lo + left.n)
@@ -135,13 +135,14 @@ pub fn clear(row: &mut [u32], len: usize)
     row[..len].fill(0);
 }
 
-// A row's first offsets over those of another.
-#[tactic(auto, unfolding(crate::specs::Edit::copied))]
+// A row's first offsets over those of another. Not by `copy_from_slice`, which a union would compile to C's `memmove`: the archive leans on `memcpy` and `memset` alone.
 pub fn copy(src: &[u32], dst: &mut [u32], len: usize)
     requires { (len ≤ length src.now) × (len ≤ length dst.old) }
     ensures { dst.new ≡ copied src.now dst.old len }
 {
-    dst[..len].copy_from_slice(&src[..len]);
+    for i in 0..len {
+        dst[i] = src[i];
+    }
 }
 
 // ---- union

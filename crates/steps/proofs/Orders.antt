@@ -2,9 +2,12 @@
 use mathlib.Core.Path.{◌≡◌, ap}
 use mathlib.Core.Logic.{◌≢◌}
 use mathlib.Core.List.{List}
+use mathlib.Core.Bool.{Bool, false}
 use Prim.Native.Nat.{ℕ, ◌+◌, ◌≤◌, ◌<◌}
 use native.Mathlib.Omega.{arith}
 use lib.ListN.{length}
+use mir.Val.{bool_byte}
+use Rattle.sums.specs.Ids.{count}
 use Rattle.sparse.specs.Row.{Rising}
 use Rattle.document.specs.Sizes.{last_chunk}
 use Rattle.layout.specs.Mem.{Mem}
@@ -19,7 +22,7 @@ use Rattle.layout.specs.declared.place.Place.TheVariants.{Absent, Sparse, Dense}
 use Rattle.layout_laws.proofs.Entries.{Ordered, chunk_over, chunk_below, chunk_rising}
 use Rattle.layout_laws.proofs.Crowds.{rising_least}
 use Rattle.steps.specs.Steps.{left_owner, paged}
-use Rattle.steps.proofs.Puts.{put_rising, put_all, put_beside, put_beside_off}
+use Rattle.steps.proofs.Puts.{put_rising, put_all, put_sum, put_beside, put_beside_off}
 use Rattle.steps.proofs.Table.{run_of, Wrote, row_owner_set, page_owner_set}
 use Rattle.steps.proofs.Words.{put_word_law}
 
@@ -52,6 +55,14 @@ module _ (h : Sizes) (t t' : List ℕ) (c w : ℕ) (o : Ordered h t) (u : Wrote 
   pub wrote_place_off : (i : ℕ) → i ≢ c → place_of h t' i ≡ place_of h t i
   unfolding word_of
   wrote_place_off i d = ap decoded (put_beside_off (run_of h t) (run_of h t') c w up u.put i d)
+
+  -- entries of other chunks are as many as before
+  pub wrote_count : (g : ℕ → Bool) → g c ≡ false → count (λ (e : ℕ). g (chunk_at h t' e)) (entries h t') ≡ count (λ (e : ℕ). g (chunk_at h t e)) (entries h t)
+  unfolding count
+  wrote_count g none =
+      let z : bool_byte (g c) ≡ 0 = ap bool_byte none in
+      let s = put_sum (run_of h t) (run_of h t') c w up (λ (k v : ℕ). bool_byte (g k)) z u.put in
+      omega arith
 
 -- the step into a page writes one word, owners aside
 module _ (h : Sizes) (t : List ℕ) (c w : ℕ) where

@@ -12,4 +12,4 @@ returns c =
     let g = c.args in
     put_lent g.pages.now c.page_at-b.result c.pow2.result (g.p * wide g.h) (wide g.h)
     c.page_at-b.ensures c.pow2.ensures
-    (λ (u : List ℕ). page_part g.g g.spages.now g.i) _ (c.copy_from_slice.ensures.after ∙ c.part.ensures)
+    (λ (u : List ℕ). page_part g.g g.spages.now g.i) _ (c.copy.ensures ∙ c.part.ensures)

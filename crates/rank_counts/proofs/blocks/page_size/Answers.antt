@@ -5,7 +5,7 @@ use Rattle.numbers.proofs.Powers.{powers}
 use Rattle.layout.specs.Sizes.{wide}
 use Rattle.layout.proofs.Lent.{length_lent}
 use Rattle.layout_laws.proofs.Sizes.{slot_inside}
-use Rattle.rank_counts.proofs.Counting.{page_words, page_total, total_small}
+use Rattle.rank_counts.proofs.Counting.{page_words, page_total, told_small}
 use Rattle.rank_counts.proofs.blocks.page_size.Goals as goal
 
 pub block_at-requires-2 : goal.block_at-requires-2
@@ -21,7 +21,7 @@ overflow_add-result c =
     let a = c.args in
     omega (
       arith,
-      total_small a.h c.requires.0 a.pages.now a.blocks.now _ _ c.requires.3 a.p _ _ _ _ c.requires.1 (page_words a.h _ _ _ _ c.page_at-a.ensures c.pow2.ensures)
+      told_small a.h c.requires.0 a.pages.now a.blocks.now _ _ c.requires.3 a.p _ _ _ _ c.requires.1 (page_words a.h _ _ _ _ c.page_at-a.ensures c.pow2.ensures)
           c.block_at.ensures c.pow2-last.ensures (c.from.ensures ∙ c.at.ensures) c.block_at-2.ensures c.block_count.ensures,
     )
 
